@@ -2,8 +2,8 @@
 use Rattle.std.specs.Prelude.{◌≡◌, ℕ, List, [], ◌∷◌, length, take}
 use Rattle.std.specs.Str.{IsValidUpTo}
 use Rattle.error_report.specs.Json.{report_text}
-use Rattle.language.specs.declared.position.SourcePosition.{SourcePosition}
-use Rattle.language.specs.Position.{index_of, line_of, column_of}
+use Rattle.language_types.specs.declared.position.SourcePosition.{SourcePosition}
+use Rattle.language_types.specs.Position.{index_of, line_of, column_of}
 use Rattle.lint_sources.specs.Lines.{line_ends}
 use Rattle.lint_sources.specs.ShownLines.{column_after}
 

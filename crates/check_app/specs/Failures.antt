@@ -6,7 +6,7 @@ use Rattle.sample_reader.specs.declared.error.ReadError.TheVariants as r
 use Rattle.check_app.specs.declared.failure.Failure.{Failure}
 use Rattle.check_app.specs.declared.failure.Failure.TheVariants as f
 use Rattle.check_app.specs.Statuses.{status_of}
-use Rattle.language.specs.Position.{printed_position}
+use Rattle.language_types.specs.Position.{printed_position}
 
 -- a text that can't be parsed is a syntax error, at the same position
 abbrev pub failure_of_read : ReadError → Failure

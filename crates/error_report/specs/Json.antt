@@ -2,8 +2,8 @@
 use Rattle.std.specs.Prelude.{ℕ, List, [], ◌∷◌, ◌++◌, codes, flat_map}
 use Rattle.json.specs.Layout.{pretty}
 use Rattle.json.specs.Token.{Token, begin_array, begin_object, end_array, end_object, key}
-use Rattle.language.specs.declared.position.SourcePosition.{SourcePosition}
-use Rattle.language.specs.Position.{line_of}
+use Rattle.language_types.specs.declared.position.SourcePosition.{SourcePosition}
+use Rattle.language_types.specs.Position.{line_of}
 use Rattle.lint_sources.specs.ShownLines.{characters_before}
 use Rattle.lint_report.specs.Json.{number_member, text_member}
 use Rattle.lint_report.specs.Texts.{from_one, line}

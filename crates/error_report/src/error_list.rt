@@ -6,8 +6,8 @@ ghost use Rattle.error_report.specs.Json.{report_text, report_tokens};
 ghost use Rattle.lint_report.specs.Json.{number_member, text_member};
 
 use json::{Pretty, Token};
-use language::error::OutOfMemory;
-use language::position::SourcePosition;
+use language_types::error::OutOfMemory;
+use language_types::position::SourcePosition;
 use lint_sources::text_places::characters_before;
 use std::alloc::{AllocError, Global};
 use walk::RuleError;

@@ -2,7 +2,7 @@
 use Rattle.std.proofs.Common.{List, [], ◌∷◌, Option, Some, None}
 use Rattle.std.specs.declared.vec.Vec.{Vec}
 use Rattle.std.specs.declared.alloc.Global.{Global}
-use Rattle.language.specs.Each.{Each}
+use Rattle.language_values.specs.Each.{Each}
 use Rattle.events.specs.Node.{Node}
 use Rattle.events.specs.Outline.{Outline, empty, entry, beside, each, if_there, each_if_there}
 

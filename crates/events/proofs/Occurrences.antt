@@ -4,16 +4,17 @@ use Rattle.std.specs.Prelude.{Vec}
 use Rattle.std.specs.declared.alloc.Global.{Global}
 use Rattle.std.specs.List.{flat_map}
 use Rattle.std.proofs.lemmas.List.{append-nil}
-use Rattle.language.specs.Each.{Each, EachIfThere}
-use Rattle.language.specs.declared.position.Span.{Span}
+use Rattle.language_values.specs.Each.{Each, EachIfThere}
+use Rattle.language_types.specs.declared.position.Span.{Span}
 use Rattle.language.specs.declared.tree.Arguments.{Arguments}
 use Rattle.language.specs.declared.tree.Definition.{Definition}
 use Rattle.language.specs.declared.tree.Definition.TheVariants as definition
 use Rattle.language.specs.declared.tree.Directive.{Directive}
 use Rattle.language.specs.declared.tree.Selection.{Selection}
 use Rattle.language.specs.declared.tree.VariableDefinitions.{VariableDefinitions}
-use Rattle.language.specs.declared.value.InputValue.{InputValue}
-use Rattle.language.proofs.Induction.{selection_induction, value_induction}
+use Rattle.language_values.specs.declared.value.InputValue.{InputValue}
+use Rattle.language_values.proofs.ValueInduction.{value_induction}
+use Rattle.language.proofs.Induction.{selection_induction}
 use Rattle.meta.specs.declared.arguments.Argument.{Argument}
 use Rattle.schema.specs.Catalog.{Catalog}
 use Rattle.events.specs.Node.{Node, Placed, ObjectEntry}

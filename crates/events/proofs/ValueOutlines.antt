@@ -2,11 +2,11 @@
 use Rattle.std.proofs.Common.{◌≡◌, List, [], ◌∷◌, map, sym, ap, ◌∙◌, refl, String, string_bytes}
 use Rattle.std.specs.Prelude.{Vec}
 use Rattle.std.specs.declared.alloc.Global.{Global}
-use Rattle.language.specs.declared.position.Span.{Span}
-use Rattle.language.specs.declared.value.InputValue.{InputValue}
-use Rattle.language.specs.declared.value.InputValue.TheVariants as v
-use Rattle.language.specs.declared.value.InputValue.TheOpen as opened
-use Rattle.language.specs.declared.value.InputValue.TheFolds.{para-roll-InputValue}
+use Rattle.language_types.specs.declared.position.Span.{Span}
+use Rattle.language_values.specs.declared.value.InputValue.{InputValue}
+use Rattle.language_values.specs.declared.value.InputValue.TheVariants as v
+use Rattle.language_values.specs.declared.value.InputValue.TheOpen as opened
+use Rattle.language_values.specs.declared.value.InputValue.TheFolds.{para-roll-InputValue}
 use Rattle.schema.specs.Catalog.{Catalog}
 use Rattle.events.specs.Node
 use Rattle.events.specs.Node.{Placed, ObjectEntry}

@@ -1,7 +1,7 @@
 -- An event as a value.
 use Rattle.std.specs.Prelude.{string_bytes}
 use Rattle.std.specs.Option.{option_copied, option_map}
-use Rattle.language.specs.Types.{borrowed_shape}
+use Rattle.language_types.specs.Types.{borrowed_shape}
 use Rattle.events.specs.declared.event.Event.{Event}
 use Rattle.events.specs.declared.event.Event.TheVariants as event
 use Rattle.events.specs.declared.typed_events.TypesOf.{TypesOf}

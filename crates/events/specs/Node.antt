@@ -2,8 +2,8 @@
 use Rattle.std.specs.Prelude.{ℕ, List, String}
 use Rattle.std.specs.declared.alloc.Global.{Global}
 use denote.Ref.{Bor}
-pub use Rattle.language.specs.Position.{Placed}
-use Rattle.language.specs.declared.position.Span.{Span}
+pub use Rattle.language_types.specs.Position.{Placed}
+use Rattle.language_types.specs.declared.position.Span.{Span}
 use Rattle.language.specs.declared.tree.Definition.{Definition}
 use Rattle.language.specs.declared.tree.Operation.{Operation}
 use Rattle.language.specs.declared.tree.Fragment.{Fragment}
@@ -13,7 +13,7 @@ use Rattle.language.specs.declared.tree.Selection.{Selection}
 use Rattle.language.specs.declared.tree.Field.{Field}
 use Rattle.language.specs.declared.tree.FragmentSpread.{FragmentSpread}
 use Rattle.language.specs.declared.tree.InlineFragment.{InlineFragment}
-use Rattle.language.specs.declared.value.InputValue.{InputValue}
+use Rattle.language_values.specs.declared.value.InputValue.{InputValue}
 
 -- a name with its place
 abbrev pub Name : Type 0

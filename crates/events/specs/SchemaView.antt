@@ -2,7 +2,7 @@
 use Rattle.std.specs.Prelude.{ℕ, List, Option, Some, option_and_then, find, string_bytes}
 use Rattle.std.specs.Option.{option_map}
 use Rattle.std.specs.Str.{bytes_eq}
-use Rattle.language.specs.Types.{TypeShape, shape, name_of, non_null_named}
+use Rattle.language_types.specs.Types.{TypeShape, shape, name_of, non_null_named}
 use Rattle.language.specs.declared.tree.OperationType.{OperationType}
 use Rattle.language.specs.declared.tree.OperationType.TheVariants as kind
 use Rattle.meta.specs.declared.kinds.MetaTypeOf.{MetaTypeOf}

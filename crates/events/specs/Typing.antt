@@ -1,7 +1,7 @@
 -- The types at a node, each given by a rule on the node above it.
 use Rattle.std.specs.Prelude.{ℕ, List, Option, Some, None, option_and_then}
 use Rattle.std.specs.Option.{option_map}
-use Rattle.language.specs.Types.{TypeShape, shape, list_inner_of, non_null_named}
+use Rattle.language_types.specs.Types.{TypeShape, shape, list_inner_of, non_null_named}
 use Rattle.language.specs.declared.tree.Operation.{Operation}
 use Rattle.language.specs.declared.tree.Fragment.{Fragment}
 use Rattle.language.specs.declared.tree.VariableDefinition.{VariableDefinition}

@@ -3,7 +3,7 @@
 ghost use Rattle.std.specs.Prelude.{◌≡◌, string_bytes, Some, option_and_then, find};
 ghost use Rattle.std.specs.Str.{bytes_eq};
 ghost use Rattle.std.specs.Option.{option_copied, option_map};
-ghost use Rattle.language.specs.Types.{borrowed_shape, list_inner_of, non_null_named};
+ghost use Rattle.language_types.specs.Types.{borrowed_shape, list_inner_of, non_null_named};
 ghost use Rattle.events.specs.SchemaView.{field_arguments, directive_arguments, argument_literal, field_literal};
 ghost use Rattle.events.specs.SchemaView.{root_literal, input_field_literal};
 ghost use Rattle.events.specs.Typing.{at_type, at_input, at_set, at_variable, at_argument, at_items, at_object_field};

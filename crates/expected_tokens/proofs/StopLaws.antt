@@ -15,7 +15,7 @@ use Rattle.graphql_reader.specs.Documents.{Definition, SpellsDocument}
 use Rattle.graphql_reader.specs.Languages.{ADocument, AtEnd, IsFault, Stuck}
 use Rattle.graphql_reader.specs.Passed.{Reads}
 use Rattle.graphql_reader.proofs.DocumentOnlyLaws.{end_stops}
-use Rattle.language.specs.Position.{index_of}
+use Rattle.language_types.specs.Position.{index_of}
 
 -- what `stop_at` says of the token ahead
 abbrev pub Tells : Stop → Tokens → Type 0

@@ -6,7 +6,7 @@ use Rattle.graphql_lexer.specs.Lexical.{end}
 use Rattle.graphql_lexer.specs.declared.cursor.Cursor.{Cursor}
 use Rattle.graphql_reader.specs.Documents.{Definition, SpellsDocument}
 use Rattle.graphql_reader.specs.Faults.{GoesOn}
-use Rattle.language.specs.Position.{index_of}
+use Rattle.language_types.specs.Position.{index_of}
 
 -- The text's tokens are `before`, x and more. With the tokens before x some document begins, and with x none. In no
 -- document is the end of a text, so where the text is a document, x is its end.

@@ -14,5 +14,5 @@ mod tests;
 
 pub use expected::{Expected, Keyword};
 pub use graphql_lexer::lexer::Punctuator;
-pub use language::error::OutOfMemory;
+pub use language_types::error::OutOfMemory;
 pub use questions::{expected_tokens, goes_on};

@@ -4,7 +4,7 @@ ghost use Rattle.expected_tokens.specs.Answers.{AreExpected, IsAnswer, TellsExpe
 
 use crate::expected::Expected;
 use crate::stops::{front_of, stop_behind};
-use language::error::OutOfMemory;
+use language_types::error::OutOfMemory;
 use std::alloc::Global;
 
 /// Whether some document begins with the tokens of `text` before the first at fault, and then with those of `next`.

@@ -3,12 +3,12 @@ ghost use Rattle.std.specs.Prelude.{◌≡◌, ◌++◌, ◌∷◌, ◌↔◌, I
 ghost use Rattle.expected_tokens.specs.Stops.{IsFront, StopsAt};
 ghost use Rattle.graphql_lexer.specs.Ahead.{ahead_of};
 ghost use Rattle.graphql_lexer.specs.Lexical.{end};
-ghost use Rattle.language.specs.Position.{index_of};
+ghost use Rattle.language_types.specs.Position.{index_of};
 
 use graphql_lexer::error::ReadError;
 use graphql_lexer::tokens::Tokens;
 use graphql_reader::read_definitions;
-use language::error::OutOfMemory;
+use language_types::error::OutOfMemory;
 use std::alloc::Global;
 
 /// The first token with which no document goes on. The end of a text is such a token.

@@ -1,7 +1,7 @@
 //! The faults of the directives of a text.
 use graphql_reader::read_type_system;
 use graphql_reader::type_system::TypeSystemDefinition;
-use language::position::SourcePosition;
+use language_types::position::SourcePosition;
 use sdl_directive_values::{ValueFault, directive_value_faults};
 use sdl_directives::{PlacedDirectiveFault, STANDARD_DIRECTIVES, directive_faults};
 use sdl_reader::read_schema;

@@ -2,8 +2,8 @@
 use crate::made::made_schema;
 use graphql_reader::type_system::TypeSystemDefinition;
 use graphql_reader::{SourceScalar, read_type_system};
-use language::error::OutOfMemory;
-use language::position::SourcePosition;
+use language_types::error::OutOfMemory;
+use language_types::position::SourcePosition;
 use schema::model::SchemaType;
 use sdl_directives::STANDARD_DIRECTIVES;
 use sdl_faults::{LocatedFault, plain_text_faults, rest_of_text_faults, text_faults};

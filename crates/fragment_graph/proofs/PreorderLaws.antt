@@ -8,8 +8,8 @@ use Rattle.std.proofs.lemmas.List.{reverse-append, map-append}
 use Rattle.std.proofs.lemmas.List.Sums.{sum_by-cons, sum_by-append}
 use Rattle.std.specs.declared.alloc.Global.{Global}
 use denote.Ref.{Bor}
-use Rattle.language.specs.declared.position.Span.{Span}
-use Rattle.language.specs.declared.position.Spanning.{Spanning}
+use Rattle.language_types.specs.declared.position.Span.{Span}
+use Rattle.language_types.specs.declared.position.Spanning.{Spanning}
 use Rattle.language.specs.declared.tree.Field.{Field, fold_out-Field, out-Field, fold-Field, map-Field}
 use Rattle.language.specs.declared.tree.FragmentSpread.{FragmentSpread}
 use Rattle.language.specs.declared.tree.InlineFragment.{InlineFragment, fold_out-InlineFragment, out-InlineFragment, fold-InlineFragment}
@@ -17,7 +17,7 @@ use Rattle.language.specs.declared.tree.Selection.{Selection, out-Selection, out
 use Rattle.language.specs.declared.tree.Selection.TheVariants as v
 use Rattle.language.specs.declared.tree.Selection.TheOpen as open_tree
 use Rattle.language.specs.SelectionsInside.{selection_step, field_step, inline_step, selections_inside, all_inside}
-use Rattle.language.proofs.InsideLaws.{sum_by-map}
+use Rattle.language_values.proofs.InsideLaws.{sum_by-map}
 use Rattle.fragment_graph.specs.declared.preorder.Preorder.{Preorder}
 use Rattle.fragment_graph.specs.Preorder.{set_in, set_inside, all_waiting, left, ComesNext}
 

@@ -2,7 +2,7 @@
 use Rattle.std.specs.Prelude.{ℕ, List, [], length, map, ◌≡◌, ◌⊎◌, ◌↔◌, slice_get}
 use Rattle.std.specs.Option.{unwrap_or}
 use Rattle.std.specs.List.{All, Contains}
-use Rattle.language.specs.declared.position.SourcePosition.{SourcePosition}
+use Rattle.language_types.specs.declared.position.SourcePosition.{SourcePosition}
 use Rattle.language.specs.declared.tree.Definition.{Definition}
 use Rattle.fragment_graph.specs.declared.cycles.CycleReport.{CycleReport}
 use Rattle.fragment_graph.specs.declared.cycles.DocumentCycles.{DocumentCycles}

@@ -3,7 +3,7 @@ use Rattle.std.specs.Prelude.{ℕ, List, [], ◌∷◌, if◌then◌else◌}
 use Rattle.std.specs.List.{flat_map}
 use Rattle.std.specs.Option.{option_map_or}
 use Rattle.std.specs.Str.{bytes_eq}
-use Rattle.language.specs.declared.position.SourcePosition.{SourcePosition}
+use Rattle.language_types.specs.declared.position.SourcePosition.{SourcePosition}
 use Rattle.language.specs.declared.tree.Selection.{Selection, fold-Selection}
 use Rattle.language.specs.declared.tree.Selection.TheOpen as open_tree
 use Rattle.language.specs.declared.tree.Definition.{Definition}

@@ -11,7 +11,7 @@ ghost use Rattle.graph_ways.specs.Ways.{links_to};
 use crate::entering::{Entering, links_to};
 use crate::items::item_at;
 use crate::order::Order;
-use language::error::OutOfMemory;
+use language_types::error::OutOfMemory;
 use std::alloc::Global;
 use type_system_circles::graph::{Link, Node};
 

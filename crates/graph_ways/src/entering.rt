@@ -4,7 +4,7 @@ ghost use Rattle.type_system_circles.specs.Graph.{IsGraph, edges_of};
 ghost use Rattle.graph_ways.specs.Entering.{AreBare, AreEntering, Enters};
 ghost use Rattle.graph_ways.specs.Ways.{link_from, links_from, links_to};
 
-use language::error::OutOfMemory;
+use language_types::error::OutOfMemory;
 use std::alloc::Global;
 use type_system_circles::graph::{Edge, Link, Node, edges};
 

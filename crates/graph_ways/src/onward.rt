@@ -10,7 +10,7 @@ ghost use Rattle.graph_ways.specs.Ways.{Counts};
 use crate::backwards::{Search, new_search, visit};
 use crate::entering::{Entering, entering_of};
 use crate::order::{Order, order_of};
-use language::error::OutOfMemory;
+use language_types::error::OutOfMemory;
 use std::alloc::Global;
 use type_system_circles::graph::{Link, Node};
 

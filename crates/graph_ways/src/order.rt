@@ -5,7 +5,7 @@ ghost use Rattle.type_system_circles.specs.Graph.{IsGraph, edges_of};
 ghost use Rattle.graph_ways.specs.Leaving.{Along, Ends, Idle, IsLooked, Keeps};
 ghost use Rattle.graph_ways.specs.Order.{IsOrder};
 
-use language::error::OutOfMemory;
+use language_types::error::OutOfMemory;
 use std::alloc::Global;
 use type_system_circles::graph::{Link, Node, edges};
 

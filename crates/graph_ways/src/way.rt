@@ -8,7 +8,7 @@ ghost use Rattle.graph_ways.specs.Ways.{HasNoWayBack, IsWayBack};
 use crate::items::item_at;
 use crate::onward::Ways;
 use crate::order::Order;
-use language::error::OutOfMemory;
+use language_types::error::OutOfMemory;
 use std::alloc::Global;
 use type_system_circles::graph::{Link, Node};
 

@@ -1,7 +1,7 @@
 -- What is left of a text, from the token ahead on.
 use Rattle.std.specs.Prelude.{◌≡◌, ◌≢◌, if◌then◌else◌, List, [], ◌∷◌}
-use Rattle.language.specs.declared.position.SourcePosition.{SourcePosition}
-use Rattle.language.specs.declared.position.Span.{Span}
+use Rattle.language_types.specs.declared.position.SourcePosition.{SourcePosition}
+use Rattle.language_types.specs.declared.position.Span.{Span}
 use Rattle.graphql_lexer.specs.Lexical.{Token}
 use Rattle.graphql_lexer.specs.Lexemes.{Lexeme, is_last, position}
 use Rattle.graphql_lexer.specs.Scan.{tokens_from}

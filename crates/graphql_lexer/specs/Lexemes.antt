@@ -1,6 +1,6 @@
 -- The tokens of a text, each with its place.
 use Rattle.std.specs.Prelude.{◌≡◌, ℕ, Bool, true, false, List, [], ◌∷◌, ◌++◌, take, drop}
-use Rattle.language.specs.declared.position.SourcePosition.{SourcePosition}
+use Rattle.language_types.specs.declared.position.SourcePosition.{SourcePosition}
 use Rattle.graphql_lexer.specs.Lexical.{Token, punctuator, name, int, float, string, block_string, end, fault, IsToken}
 use Rattle.graphql_lexer.specs.Lexical.{IsIgnored}
 use Rattle.graphql_lexer.specs.Places.{after_all}

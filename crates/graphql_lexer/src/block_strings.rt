@@ -8,7 +8,7 @@ ghost use Rattle.graphql_lexer.specs.Lexical.{is_line_end as line_end};
 
 use crate::lexer::rest;
 use crate::strings::part;
-use language::error::OutOfMemory;
+use language_types::error::OutOfMemory;
 use std::alloc::Global;
 
 /// The value of a block string, given the text between its quotes (section 2.9.4).

@@ -1,6 +1,6 @@
 //! Why a text can't be read.
-use language::error::OutOfMemory;
-use language::position::SourcePosition;
+use language_types::error::OutOfMemory;
+use language_types::position::SourcePosition;
 use std::alloc::{AllocError, AllocFailed};
 use std::error::Error;
 use std::fmt;

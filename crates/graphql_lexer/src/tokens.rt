@@ -10,7 +10,7 @@ use crate::cursor::Cursor;
 use crate::error::{Found, ReadError, SyntaxError, SyntaxFault};
 use crate::lexer::{Punctuator, Token};
 use crate::scan::{Scanned, scan};
-use language::position::{SourcePosition, Span, Spanning};
+use language_types::position::{SourcePosition, Span, Spanning};
 use std::alloc::Global;
 use std::str;
 

@@ -1,7 +1,7 @@
 -- A selection that is added to a list.
 use Rattle.std.proofs.Common.{◌≡◌, ◌↔◌, ◌++◌, ◌∷◌, [], Bool, true, false, ℕ, Option, None, refl, sym, ap, subst, ◌∙◌, IsTrue}
-use Rattle.language.specs.declared.position.Span.{Span}
-use Rattle.language.specs.declared.position.Spanning.{Spanning}
+use Rattle.language_types.specs.declared.position.Span.{Span}
+use Rattle.language_types.specs.declared.position.Spanning.{Spanning}
 use Rattle.language.specs.declared.tree.FragmentSpread.{FragmentSpread}
 use Rattle.language.specs.declared.tree.Selection.{Selection as Node, fold-roll-Selection}
 use Rattle.language.specs.declared.tree.Selection.TheVariants as v

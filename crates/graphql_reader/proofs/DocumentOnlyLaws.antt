@@ -1,6 +1,6 @@
 -- A text is no more than one document.
 use Rattle.std.proofs.Common.{◌≡◌, ◌⊎◌, Bool, true, false, nat_eq, inl, inr, ℕ, List, [], ◌∷◌, ◌++◌, Option, append_assoc, length, length-append, arith, refl, sym, ap, ◌∙◌}
-use Rattle.language.specs.declared.position.Span.{Span}
+use Rattle.language_types.specs.declared.position.Span.{Span}
 use Rattle.language.specs.declared.tree.OperationType.{OperationType}
 use Rattle.language.specs.declared.tree.OperationType.TheVariants.{Query, Mutation, Subscription}
 use Rattle.graphql_lexer.specs.Lexemes.{Lexeme}

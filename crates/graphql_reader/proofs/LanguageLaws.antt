@@ -1,13 +1,13 @@
 -- Each production as a language, put together from its parts.
 use Rattle.std.proofs.Common.{◌≡◌, ◌⊎◌, inl, inr, ℕ, suc, List, [], ◌∷◌, ◌++◌, append_assoc, append-nil, reverse, Option, Some, None, refl, sym, ap, subst, ◌∙◌}
 use Rattle.std.proofs.lemmas.List.{reverse-reverse}
-use Rattle.language.specs.Types.{TypeShape}
-use Rattle.language.specs.declared.position.SourcePosition.{SourcePosition}
-use Rattle.language.specs.declared.position.Span.{Span}
+use Rattle.language_types.specs.Types.{TypeShape}
+use Rattle.language_types.specs.declared.position.SourcePosition.{SourcePosition}
+use Rattle.language_types.specs.declared.position.Span.{Span}
 use Rattle.language.specs.declared.tree.OperationType.{OperationType}
 use Rattle.language.specs.declared.tree.OperationType.TheVariants.{Query}
-use Rattle.language.specs.declared.types.TypeModifier.{TypeModifier}
-use Rattle.language.specs.declared.types.TypeModifier.TheVariants as m
+use Rattle.language_types.specs.declared.types.TypeModifier.{TypeModifier}
+use Rattle.language_types.specs.declared.types.TypeModifier.TheVariants as m
 use Rattle.graphql_lexer.specs.Lexemes.{Lexeme}
 use Rattle.graphql_lexer.specs.Lexical as token
 use Rattle.graphql_lexer.specs.declared.lexer.Punctuator.TheVariants.{At, BraceOpen, BraceClose, BracketOpen, BracketClose, Colon, Dollar, Equals, ParenOpen, ParenClose, Spread}

@@ -1,8 +1,8 @@
 -- No two trees are spelled by the same tokens, where what follows goes on with none of them.
 use Rattle.std.proofs.Common.{◌≡◌, ◌⊎◌, inl, inr, ℕ, suc, List, [], ◌∷◌, ◌++◌, append_assoc, Option, Some, None, refl, sym, ap, subst, ◌∙◌}
 use Rattle.std.proofs.lemmas.List.{append_cancel_right}
-use Rattle.language.specs.declared.position.Span.{Span}
-use Rattle.language.specs.declared.position.SourcePosition.{SourcePosition}
+use Rattle.language_types.specs.declared.position.Span.{Span}
+use Rattle.language_types.specs.declared.position.SourcePosition.{SourcePosition}
 use Rattle.graphql_lexer.specs.Ahead.{left}
 use Rattle.graphql_lexer.specs.Lexemes.{Lexeme}
 use Rattle.graphql_lexer.specs.Lexical as token

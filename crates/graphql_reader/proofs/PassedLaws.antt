@@ -1,8 +1,8 @@
 -- Productions that are read one after the other.
 use Rattle.std.proofs.lemmas.List.{map_push}
 use Rattle.std.proofs.Common.{◌≡◌, false, List, [], ◌∷◌, ◌++◌, map, append_assoc, append-nil, refl, sym, ap, subst, ◌∙◌}
-use Rattle.language.specs.declared.position.SourcePosition.{SourcePosition}
-use Rattle.language.specs.declared.position.Span.{Span}
+use Rattle.language_types.specs.declared.position.SourcePosition.{SourcePosition}
+use Rattle.language_types.specs.declared.position.Span.{Span}
 use Rattle.graphql_lexer.specs.Ahead.{ahead_of, behind, left, last_end_of, IsTaken, IsSpanOf}
 use Rattle.graphql_lexer.specs.Lexemes.{Lexeme, is_last}
 use Rattle.graphql_lexer.specs.Lexical as token

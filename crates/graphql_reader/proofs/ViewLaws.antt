@@ -1,9 +1,9 @@
 -- What a field, an inline fragment and the spread of a fragment stand for.
 use Rattle.std.proofs.Common.{◌≡◌, ◌∙◌, Option, Some, None, option_map, Vec, refl, ap, sym}
 use Rattle.std.specs.declared.alloc.Global.{Global}
-use Rattle.language.specs.declared.position.SourcePosition.{SourcePosition}
-use Rattle.language.specs.declared.position.Span.{Span}
-use Rattle.language.specs.declared.position.Spanning.{Spanning}
+use Rattle.language_types.specs.declared.position.SourcePosition.{SourcePosition}
+use Rattle.language_types.specs.declared.position.Span.{Span}
+use Rattle.language_types.specs.declared.position.Spanning.{Spanning}
 use Rattle.language.specs.declared.tree.Arguments.{Arguments}
 use Rattle.language.specs.declared.tree.Field.{Field, fold-Field, fold-roll-Field, fold_out-Field, map-Field, out-Field, roll-Field}
 use Rattle.language.specs.declared.tree.InlineFragment.{InlineFragment, fold-InlineFragment, fold-roll-InlineFragment, fold_out-InlineFragment, out-InlineFragment, roll-InlineFragment}

@@ -1,8 +1,8 @@
 -- The tokens that executable documents are written with (GraphQL, October 2021, sections 2.2, 2.3, 2.8 and 2.10).
 use Rattle.std.specs.Prelude.{◌≡◌, ◌⊎◌, ℕ, false, List, [], ◌∷◌, ◌++◌, map, Option, None, option_map, codes}
 use denote.Ref.{Bor}
-use Rattle.language.specs.declared.position.Span.{Span}
-use Rattle.language.specs.declared.position.Spanning.{Spanning}
+use Rattle.language_types.specs.declared.position.Span.{Span}
+use Rattle.language_types.specs.declared.position.Spanning.{Spanning}
 use Rattle.language.specs.declared.tree.Definition.{Definition as GivenDefinition}
 use Rattle.language.specs.declared.tree.Definition.TheVariants as given
 use Rattle.language.specs.declared.tree.Fragment.{Fragment as GivenFragment}

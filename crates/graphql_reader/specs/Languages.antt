@@ -1,6 +1,6 @@
 -- The same productions as languages, which forget the trees, and what is left of one behind the tokens that were read.
 use Rattle.std.specs.Prelude.{◌≡◌, ◌⊎◌, ℕ, zero, suc, true, List, [], ◌∷◌, ◌++◌, Option, None}
-use Rattle.language.specs.declared.types.TypeModifier.{TypeModifier}
+use Rattle.language_types.specs.declared.types.TypeModifier.{TypeModifier}
 use Rattle.graphql_lexer.specs.Ahead.{ahead_of, left}
 use Rattle.graphql_lexer.specs.Lexemes.{Lexeme}
 use Rattle.graphql_lexer.specs.Lexical as token

@@ -1,8 +1,8 @@
 -- The selection sets that are begun while a text is read, the innermost first.
 use Rattle.std.specs.Prelude.{◌≡◌, ℕ, suc, true, Bool, false, List, [], ◌∷◌, ◌++◌, length, map, Option, Some, None, Vec}
 use Rattle.std.specs.declared.alloc.Global.{Global}
-use Rattle.language.specs.declared.position.SourcePosition.{SourcePosition}
-use Rattle.language.specs.declared.position.Span.{Span}
+use Rattle.language_types.specs.declared.position.SourcePosition.{SourcePosition}
+use Rattle.language_types.specs.declared.position.Span.{Span}
 use Rattle.language.specs.declared.tree.Field.{Field, out-Field, roll-Field}
 use Rattle.language.specs.declared.tree.InlineFragment.{InlineFragment, out-InlineFragment, roll-InlineFragment}
 use Rattle.language.specs.declared.tree.Selection.{Selection as Node}

@@ -1,10 +1,10 @@
 -- A default value (GraphQL, October 2021, section 2.10), and a description (section 3.3).
 use Rattle.std.specs.Prelude.{◌≡◌, ℕ, List, ◌∷◌, Option, Some, None, String, string_bytes}
 use Rattle.std.specs.declared.alloc.Global.{Global}
-use Rattle.language.specs.declared.position.SourcePosition.{SourcePosition}
-use Rattle.language.specs.declared.position.Span.{Span}
-use Rattle.language.specs.declared.position.Spanning.{Spanning}
-use Rattle.language.specs.declared.value.InputValue.{InputValue}
+use Rattle.language_types.specs.declared.position.SourcePosition.{SourcePosition}
+use Rattle.language_types.specs.declared.position.Span.{Span}
+use Rattle.language_types.specs.declared.position.Spanning.{Spanning}
+use Rattle.language_values.specs.declared.value.InputValue.{InputValue}
 use Rattle.sdl_scalars.specs.declared.scalar.SourceScalar.{SourceScalar}
 use Rattle.graphql_lexer.specs.Ahead.{ahead_of, behind, left, IsLeft, IsSpanOf}
 use Rattle.graphql_lexer.specs.Lexemes.{Lexeme}

@@ -1,11 +1,11 @@
 -- The tokens that a type reference is written with (GraphQL, October 2021, section 2.11).
 use Rattle.std.specs.Prelude.{◌≡◌, ℕ, zero, suc, true, List, [], ◌∷◌, reverse, Option, Some, None}
-use Rattle.language.specs.Types.{TypeShape, shape}
-use Rattle.language.specs.declared.position.Span.{Span}
-use Rattle.language.specs.declared.position.Spanning.{Spanning}
-use Rattle.language.specs.declared.types.TypeModifier.{TypeModifier}
-use Rattle.language.specs.declared.types.TypeModifier.TheVariants as m
-use Rattle.language.specs.declared.types.«Type» as t
+use Rattle.language_types.specs.Types.{TypeShape, shape}
+use Rattle.language_types.specs.declared.position.Span.{Span}
+use Rattle.language_types.specs.declared.position.Spanning.{Spanning}
+use Rattle.language_types.specs.declared.types.TypeModifier.{TypeModifier}
+use Rattle.language_types.specs.declared.types.TypeModifier.TheVariants as m
+use Rattle.language_types.specs.declared.types.«Type» as t
 use Rattle.graphql_lexer.specs.Lexemes.{Lexeme}
 use Rattle.graphql_lexer.specs.Lexical as token
 use Rattle.graphql_lexer.specs.declared.lexer.Punctuator.TheVariants.{Bang, BracketOpen, BracketClose}

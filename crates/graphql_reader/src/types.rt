@@ -8,7 +8,7 @@ ghost use Rattle.graphql_reader.specs.Languages.{IsFault, Leaves};
 ghost use Rattle.graphql_reader.specs.Passed.{Reads, Then};
 ghost use Rattle.graphql_reader.specs.Types.{type_seen, MayBeNull, SpellsBrackets, SpellsShape, SpellsType};
 ghost use Rattle.graphql_lexer.specs.declared.tokens.Tokens.{Tokens as Reader};
-ghost use Rattle.language.specs.Types.{shape};
+ghost use Rattle.language_types.specs.Types.{shape};
 
 use crate::depth::check_depth;
 use crate::expected::{expect, name};

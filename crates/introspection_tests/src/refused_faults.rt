@@ -1,6 +1,6 @@
 //! Each request for memory refused in turn, where a schema is judged.
 use graphql_reader::read_type_system;
-use language::error::OutOfMemory;
+use language_types::error::OutOfMemory;
 use sdl_directives::STANDARD_DIRECTIVES;
 use sdl_faults::{plain_text_faults, rest_of_text_faults, text_faults};
 use sdl_mending::{Mended, Touched, mended_text};

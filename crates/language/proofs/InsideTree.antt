@@ -4,15 +4,15 @@ use Rattle.std.specs.Prelude.{Option, Some, None, IfSome}
 use Rattle.std.specs.Option.{option_map_or}
 use Rattle.std.proofs.lemmas.List.Sums.{sum_by-cons}
 use Rattle.std.specs.declared.alloc.Global.{Global}
-use Rattle.language.specs.declared.position.Span.{Span}
-use Rattle.language.specs.declared.position.Spanning.{Spanning}
+use Rattle.language_types.specs.declared.position.Span.{Span}
+use Rattle.language_types.specs.declared.position.Spanning.{Spanning}
 use Rattle.language.specs.declared.tree.Field.{Field, fold_out-Field, out-Field, fold-Field, map-Field}
 use Rattle.language.specs.declared.tree.InlineFragment.{InlineFragment, fold_out-InlineFragment, out-InlineFragment, fold-InlineFragment}
 use Rattle.language.specs.declared.tree.Selection.{Selection, fold-roll-Selection}
 use Rattle.language.specs.declared.tree.Selection.TheVariants as v
 use Rattle.language.specs.declared.tree.Selection.TheOpen as open_tree
 use Rattle.language.specs.SelectionsInside.{selection_step, field_step, inline_step, selections_inside, all_inside}
-use Rattle.language.proofs.InsideLaws.{sum_by-map}
+use Rattle.language_values.proofs.InsideLaws.{sum_by-map}
 
 module _ {S : Type 0} where
   pub inside_roll_field : (s : Selection S) (f : Spanning (Field S) Span) → s ≡ v.Field f → selections_inside s ≡ 1 + option_map_or (λ w. all_inside w.items) (out-Field S f.item).selection_set 0

@@ -4,7 +4,7 @@ use Rattle.std.specs.Prelude.{string_bytes, take, if◌then◌else◌}
 use Rattle.std.specs.Fmt.{decimal}
 use Rattle.std.specs.List.{AllZip, concat}
 use Rattle.std.specs.Str.{IsCharBoundary}
-use Rattle.language.specs.Position.{line_of, column_of}
+use Rattle.language_types.specs.Position.{line_of, column_of}
 use Rattle.lint_sources.specs.declared.faults.Fault.{Fault}
 use Rattle.lint_sources.specs.declared.issues.Issue.{Issue}
 use Rattle.lint_sources.specs.declared.sources.Place.{Place}

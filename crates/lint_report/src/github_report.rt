@@ -4,7 +4,7 @@ ghost use Rattle.lint_report.specs.Github.{fault_command, github_text, issue_com
 ghost use Rattle.lint_report.specs.Github.{place_properties, property_character, property_text};
 
 use crate::text_report::{told_column, told_line};
-use language::error::OutOfMemory;
+use language_types::error::OutOfMemory;
 use lint_sources::faults::Fault;
 use lint_sources::issues::Issue;
 use lint_sources::sources::{Place, Source, path_of};

@@ -7,7 +7,7 @@ ghost use Rattle.lint_report.specs.Json.{number_member, report_tokens, text_memb
 
 use crate::text_report::{told_column, told_line};
 use json::{Pretty, Token};
-use language::error::OutOfMemory;
+use language_types::error::OutOfMemory;
 use lint_sources::faults::Fault;
 use lint_sources::issues::Issue;
 use lint_sources::sources::{Place, Source, path_of};

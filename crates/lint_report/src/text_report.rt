@@ -6,7 +6,7 @@ ghost use Rattle.lint_report.specs.Texts.{summary_text, told_column, told_line, 
 
 use crate::colours::{bold, error_word, plain};
 use crate::windows::write_window;
-use language::error::OutOfMemory;
+use language_types::error::OutOfMemory;
 use lint_sources::faults::Fault;
 use lint_sources::issues::{Issue, files_of};
 use lint_sources::sources::{Place, Source, path_of, text_of};

@@ -1,5 +1,5 @@
 //! The places of joined texts in their files, and lines of texts.
-use language::error::OutOfMemory;
+use language_types::error::OutOfMemory;
 use lint_sources::sources::Joined;
 use lint_sources::text_places::{line_of, position_at};
 use std::alloc::{AllocError, Global};

@@ -1,6 +1,6 @@
 //! Errors as text, as JSON and for GitHub.
-use language::error::OutOfMemory;
-use language::position::SourcePosition;
+use language_types::error::OutOfMemory;
+use language_types::position::SourcePosition;
 use lint_report::github_report::github_report;
 use lint_report::json_report::json_report;
 use lint_report::text_report::{faults_text, text_report};

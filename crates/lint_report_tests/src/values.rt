@@ -1,5 +1,5 @@
 //! JSON as values of variables.
-use language::value::{InputValue, Variables};
+use language_values::value::{InputValue, Variables};
 use lint_sources::json_text::is_object_text;
 use lint_sources::variables::read_variables;
 use sdl_scalars::scalar::SourceScalar;

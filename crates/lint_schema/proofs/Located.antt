@@ -4,7 +4,7 @@ use Rattle.std.specs.List.{AllZip}
 use Rattle.std.proofs.lemmas.List.{append-nil, take_more}
 use Rattle.std.proofs.lemmas.Slice.Zip.{all_zipped_more}
 use Rattle.graphql_reader.specs.declared.type_system.TypeSystemDefinition.{TypeSystemDefinition}
-use Rattle.language.specs.declared.position.SourcePosition.{SourcePosition}
+use Rattle.language_types.specs.declared.position.SourcePosition.{SourcePosition}
 use Rattle.lint_sources.specs.declared.faults.Fault.{Fault}
 use Rattle.lint_sources.specs.declared.sources.Joined.{Joined}
 use Rattle.lint_sources.specs.declared.sources.Source.{Source}
@@ -13,7 +13,7 @@ use Rattle.lint_schema.specs.Judged.{AddsLocated, AddsMendedFaults, AddsRest, Is
 use Rattle.lint_schema.specs.Told.{AddsFault, AddsFaultsOf, HasAllFurther, HasFurther, IsToldAt}
 use Rattle.sdl_faults.specs.Schema.{SourceSchema}
 use Rattle.sdl_faults.specs.Valid.{IsValidSchema}
-use Rattle.language.specs.Names.{is_among}
+use Rattle.language_types.specs.Names.{is_among}
 use Rattle.sdl_index.specs.declared.error.Faults.{Faults}
 use Rattle.sdl_index.specs.declared.error.PlacedFault.{PlacedFault}
 use Rattle.sdl_index.specs.declared.error.SchemaReadError.{SchemaReadError}

@@ -2,8 +2,8 @@
 use Rattle.std.specs.Prelude.{◌≡◌, ◌↔◌, ◌⊎◌, ◌++◌, ℕ, List, [], Option, None, Some, string_bytes}
 use Rattle.std.specs.List.{AllZip}
 use Rattle.graphql_reader.specs.declared.type_system.TypeSystemDefinition.{TypeSystemDefinition}
-use Rattle.language.specs.Names.{is_among}
-use Rattle.language.specs.declared.position.SourcePosition.{SourcePosition}
+use Rattle.language_types.specs.Names.{is_among}
+use Rattle.language_types.specs.declared.position.SourcePosition.{SourcePosition}
 use Rattle.lint_sources.specs.declared.faults.Fault.{Fault}
 use Rattle.lint_sources.specs.declared.sources.Joined.{Joined}
 use Rattle.lint_sources.specs.declared.sources.Source.{Source}

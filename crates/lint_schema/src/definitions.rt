@@ -2,7 +2,7 @@
 use crate::faults::add_file_fault;
 use graphql_reader::{ReadError, read_type_system};
 use introspection::{IntrospectionError, schema_text};
-use language::error::OutOfMemory;
+use language_types::error::OutOfMemory;
 use lint_sources::faults::Fault;
 use lint_sources::json_text::{check_syntax, is_object_text, without_mark};
 use lint_sources::sources::{Joined, Place, Source, path_of, text_of};

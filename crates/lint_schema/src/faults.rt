@@ -4,8 +4,8 @@ ghost use Rattle.lint_sources.specs.Faults.{IsFault};
 ghost use Rattle.lint_schema.specs.Told.{AddsFault, AddsFaults, AddsFaultsOf, HasFurther, IsInLine, IsToldAt};
 ghost use Rattle.lint_schema.specs.Told.{IsToldInLine};
 
-use language::error::OutOfMemory;
-use language::position::SourcePosition;
+use language_types::error::OutOfMemory;
+use language_types::position::SourcePosition;
 use lint_sources::faults::Fault;
 use lint_sources::json_text::is_object_text;
 use lint_sources::sources::{Joined, Place, Source, path_of, text_of};

@@ -8,7 +8,7 @@ use crate::faults::add_schema_faults;
 use crate::judging::{add_mended_faults, add_plain_faults, add_type_system_faults};
 use graphql_reader::type_system::TypeSystemDefinition;
 use graphql_reader::{ReadError, SourceScalar, read_type_system};
-use language::error::OutOfMemory;
+use language_types::error::OutOfMemory;
 use lint_sources::faults::Fault;
 use lint_sources::sources::{Joined, Source};
 use schema::model::{Dialect, SchemaTypeOf};

@@ -1,7 +1,7 @@
 -- Why a file could not be judged, as an error of this file, which may have places in others.
 use Rattle.std.specs.Prelude.{◌≡◌, ◌++◌, ℕ, IfSome, List, [], ◌∷◌, Option, length, option_map, string_bytes}
 use Rattle.std.specs.Option.{option_to_list}
-use Rattle.language.specs.declared.position.SourcePosition.{SourcePosition}
+use Rattle.language_types.specs.declared.position.SourcePosition.{SourcePosition}
 use Rattle.lint_sources.specs.declared.faults.Fault.{Fault}
 use Rattle.lint_sources.specs.declared.sources.Place.{Place}
 use Rattle.lint_sources.specs.declared.sources.Source.{Source}

@@ -2,7 +2,7 @@
 use Rattle.std.specs.Prelude.{◌≡◌, ℕ, List, [], ◌∷◌, map, string_bytes}
 use Rattle.std.specs.Ordering.{eq_by_cmp, nat_cmp}
 use Rattle.std.specs.Set.{distinct_count}
-use Rattle.language.specs.declared.position.SourcePosition.{SourcePosition}
+use Rattle.language_types.specs.declared.position.SourcePosition.{SourcePosition}
 use Rattle.lint_sources.specs.declared.issues.Issue.{Issue}
 use Rattle.lint_sources.specs.declared.sources.Joined.{Joined}
 use Rattle.lint_sources.specs.declared.sources.Place.{Place}

@@ -3,8 +3,8 @@ use Rattle.std.specs.Prelude.{◌≡◌, ◌==◌, ◌-◌, ◌||◌, ◌&&◌, 
 use Rattle.std.specs.Prelude.{reverse, take, take_while}
 use Rattle.std.specs.List.{prefix_len}
 use Rattle.std.specs.Str.{IsCharBoundary}
-use Rattle.language.specs.declared.position.SourcePosition.{SourcePosition}
-use Rattle.language.specs.Position.{index_of, column_of}
+use Rattle.language_types.specs.declared.position.SourcePosition.{SourcePosition}
+use Rattle.language_types.specs.Position.{index_of, column_of}
 
 -- neither a line feed nor a carriage return
 abbrev pub is_in_line : ℕ → Bool

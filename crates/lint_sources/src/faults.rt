@@ -6,8 +6,8 @@ ghost use Rattle.lint_sources.specs.Sources.{path_in, text_in};
 
 use crate::issues::Issue;
 use crate::sources::{Place, Source, path_of, text_of};
-use language::error::OutOfMemory;
-use language::position::SourcePosition;
+use language_types::error::OutOfMemory;
+use language_types::position::SourcePosition;
 use std::alloc::{AllocError, Global};
 use std::fmt;
 

@@ -5,8 +5,8 @@ ghost use Rattle.std.specs.Ordering.{nat_cmp};
 ghost use Rattle.lint_sources.specs.Issues.{IsIssueIn, file_count, file_of};
 
 use crate::sources::{Joined, Place};
-use language::error::OutOfMemory;
-use language::position::SourcePosition;
+use language_types::error::OutOfMemory;
+use language_types::position::SourcePosition;
 use std::alloc::{AllocError, Global};
 use std::collections::BTreeSet;
 

@@ -1,8 +1,8 @@
 //! JSON texts: which text is meant as JSON, and where its first error is.
 use crate::text_places::position_at;
 use json::{Reader, Scratch, Value};
-use language::error::OutOfMemory;
-use language::position::SourcePosition;
+use language_types::error::OutOfMemory;
+use language_types::position::SourcePosition;
 use std::alloc::{AllocError, AllocFailed, Global};
 use std::error::Error;
 use std::fmt;

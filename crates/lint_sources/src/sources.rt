@@ -4,8 +4,8 @@ ghost use Rattle.lint_sources.specs.Places.{HasNoFile, JoinsFile, place_in, star
 ghost use Rattle.lint_sources.specs.Sources.{path_in, text_in};
 
 use crate::text_places::lines_before_feed;
-use language::error::OutOfMemory;
-use language::position::SourcePosition;
+use language_types::error::OutOfMemory;
+use language_types::position::SourcePosition;
 use std::alloc::Global;
 
 /// A file.

@@ -2,12 +2,12 @@
 //! 2.1.3).
 ghost use Rattle.std.specs.Prelude.{◌≡◌, ◌+◌, ◌≤◌, if◌then◌else◌, [], ◌∷◌, ◌++◌, count_by, length, take, take_while};
 ghost use Rattle.std.specs.List.{prefix_len};
-ghost use Rattle.language.specs.Position as position;
+ghost use Rattle.language_types.specs.Position as position;
 ghost use Rattle.lint_sources.specs.Lines.{line_ends, more_ends};
 ghost use Rattle.lint_sources.specs.ShownLines.{IsLineOf, before_place, begins_character, characters_before};
 ghost use Rattle.lint_sources.specs.ShownLines.{column_after, is_in_line};
 
-use language::position::SourcePosition;
+use language_types::position::SourcePosition;
 use memchr::memchr2;
 
 /// The position of a byte index: its 0-based line and column, in bytes.

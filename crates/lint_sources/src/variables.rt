@@ -2,9 +2,9 @@
 use crate::json_text::{JsonError, read_value, without_mark};
 use crate::text_places::position_at;
 use json::{Scratch, Value};
-use language::error::OutOfMemory;
-use language::position::{SourcePosition, Span, Spanning};
-use language::value::{InputValue, Variables};
+use language_types::error::OutOfMemory;
+use language_types::position::{SourcePosition, Span, Spanning};
+use language_values::value::{InputValue, Variables};
 use sdl_scalars::scalar::SourceScalar;
 use std::alloc::Global;
 use std::collections::BTreeMap;

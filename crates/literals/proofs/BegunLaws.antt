@@ -4,11 +4,11 @@ use Rattle.std.proofs.lemmas.List.{append-nil, reverse-append}
 use Rattle.std.proofs.lemmas.List.Elements.{All-pop, All-push}
 use Rattle.std.specs.List.{All}
 use denote.Ref.{Bor}
-use Rattle.language.specs.declared.position.Span.{Span}
-use Rattle.language.specs.declared.position.Spanning.{Spanning}
-use Rattle.language.specs.declared.value.InputValue.{InputValue}
-use Rattle.language.specs.Types.{shape}
-use Rattle.language.specs.Values.{Entry}
+use Rattle.language_types.specs.declared.position.Span.{Span}
+use Rattle.language_types.specs.declared.position.Spanning.{Spanning}
+use Rattle.language_values.specs.declared.value.InputValue.{InputValue}
+use Rattle.language_types.specs.Types.{shape}
+use Rattle.language_values.specs.Values.{Entry}
 use Rattle.meta.specs.Answers.{Answers}
 use Rattle.meta.specs.declared.arguments.Argument.{Argument}
 use Rattle.meta.specs.declared.kinds.MetaTypeOf.{MetaTypeOf}

@@ -3,14 +3,14 @@ use Rattle.std.proofs.Common.{◌≡◌, ℕ, List, Option, Some, None, true, fa
 use Rattle.std.specs.Prelude.{Vec}
 use Rattle.std.specs.declared.alloc.Global.{Global}
 use Rattle.std.proofs.Math.Path.{transport}
-use Rattle.language.specs.declared.position.Span.{Span}
-use Rattle.language.specs.declared.position.Spanning.{Spanning}
-use Rattle.language.specs.declared.value.InputValue.{InputValue, roll-InputValue, out-roll-InputValue}
-use Rattle.language.specs.declared.value.InputValue.TheOpen as v
-use Rattle.language.specs.declared.value.InputValue.TheVariants as variant
-use Rattle.language.specs.Types.{shape}
-use Rattle.language.specs.Values.{Entry, list_items, items_layer}
-use Rattle.language.specs.ValuesPrinted.{comma_separated}
+use Rattle.language_types.specs.declared.position.Span.{Span}
+use Rattle.language_types.specs.declared.position.Spanning.{Spanning}
+use Rattle.language_values.specs.declared.value.InputValue.{InputValue, roll-InputValue, out-roll-InputValue}
+use Rattle.language_values.specs.declared.value.InputValue.TheOpen as v
+use Rattle.language_values.specs.declared.value.InputValue.TheVariants as variant
+use Rattle.language_types.specs.Types.{shape}
+use Rattle.language_values.specs.Values.{Entry, list_items, items_layer}
+use Rattle.language_values.specs.ValuesPrinted.{comma_separated}
 use Rattle.meta.specs.Answers.{Answers}
 use Rattle.meta.specs.declared.arguments.Argument.{Argument}
 use Rattle.meta.specs.Kinds.{check_of_meta, input_field_named}

@@ -2,13 +2,13 @@
 use Rattle.std.proofs.Common.{◌≡◌, ℕ, List, [], ◌∷◌, Option, Some, None, false, is_some, length, reverse, refl, ap, sym, ◌∙◌}
 use Rattle.std.proofs.Math.Path.{transport}
 use Rattle.std.proofs.lemmas.List.{reverse-append, reverse-reverse}
-use Rattle.language.specs.declared.types.TypeModifier.{TypeModifier}
-use Rattle.language.specs.declared.types.TypeModifier.TheVariants as m
-use Rattle.language.specs.declared.value.InputValue.{InputValue, roll-InputValue, out-InputValue, roll-out-InputValue}
-use Rattle.language.specs.declared.value.InputValue.TheVariants as variant
-use Rattle.language.specs.declared.value.InputValue.TheOpen as v
-use Rattle.language.specs.declared.value.InputValue.TheFolds.{rec-InputValue}
-use Rattle.language.specs.Values.{list_items, items_layer}
+use Rattle.language_types.specs.declared.types.TypeModifier.{TypeModifier}
+use Rattle.language_types.specs.declared.types.TypeModifier.TheVariants as m
+use Rattle.language_values.specs.declared.value.InputValue.{InputValue, roll-InputValue, out-InputValue, roll-out-InputValue}
+use Rattle.language_values.specs.declared.value.InputValue.TheVariants as variant
+use Rattle.language_values.specs.declared.value.InputValue.TheOpen as v
+use Rattle.language_values.specs.declared.value.InputValue.TheFolds.{rec-InputValue}
+use Rattle.language_values.specs.Values.{list_items, items_layer}
 use Rattle.meta.specs.Answers.{Answers}
 use Rattle.meta.specs.declared.kinds.MetaTypeOf.{MetaTypeOf}
 use Rattle.schema.specs.Catalog.{Catalog}

@@ -2,14 +2,14 @@
 use Rattle.std.proofs.Common.{◌≡◌, ℕ, List, [], ◌∷◌, Option, Some, None, IsSome, map, length, reverse, Bool, true, false, refl, ap, sym, ◌∙◌, ◌⊎◌}
 use Rattle.std.proofs.Math.Path.{fun_ext}
 use Rattle.std.proofs.lemmas.List.{length-map}
-use Rattle.language.specs.declared.position.Span.{Span}
-use Rattle.language.specs.declared.position.Spanning.{Spanning}
-use Rattle.language.specs.declared.types.TypeModifier.{TypeModifier}
-use Rattle.language.specs.declared.types.TypeModifier.TheVariants as m
-use Rattle.language.specs.declared.value.InputValue.{InputValue, map-InputValue, roll-InputValue}
-use Rattle.language.specs.declared.value.InputValue.TheOpen as v
-use Rattle.language.specs.declared.value.InputValue.TheFolds.{rec-InputValue, rec-roll-InputValue}
-use Rattle.language.specs.Values.{Entry}
+use Rattle.language_types.specs.declared.position.Span.{Span}
+use Rattle.language_types.specs.declared.position.Spanning.{Spanning}
+use Rattle.language_types.specs.declared.types.TypeModifier.{TypeModifier}
+use Rattle.language_types.specs.declared.types.TypeModifier.TheVariants as m
+use Rattle.language_values.specs.declared.value.InputValue.{InputValue, map-InputValue, roll-InputValue}
+use Rattle.language_values.specs.declared.value.InputValue.TheOpen as v
+use Rattle.language_values.specs.declared.value.InputValue.TheFolds.{rec-InputValue, rec-roll-InputValue}
+use Rattle.language_values.specs.Values.{Entry}
 use Rattle.meta.specs.Answers.{Answers}
 use Rattle.meta.specs.declared.arguments.Argument.{Argument}
 use Rattle.meta.specs.declared.kinds.MetaTypeOf.{MetaTypeOf}

@@ -2,7 +2,7 @@
 use Rattle.std.specs.Prelude.{◌≡◌, ℕ, List, [], ◌∷◌, reverse, Option, Some, None}
 use Rattle.schema.specs.Catalog.{Catalog}
 use Rattle.schema.specs.Wrapped.{plain_meta}
-use Rattle.language.specs.declared.value.InputValue.{InputValue}
+use Rattle.language_values.specs.declared.value.InputValue.{InputValue}
 use Rattle.meta.specs.Answers.{Answers}
 use Rattle.literals.specs.declared.begun.Begun.{Begun}
 use Rattle.literals.specs.declared.begun.Begun.TheVariants as b

@@ -2,13 +2,13 @@
 -- and 3.11).
 use Rattle.std.specs.Prelude.{◌≡◌, ℕ, List, [], ◌∷◌, length, reverse, map, Bool, true, false, Option, Some, None}
 use Rattle.std.specs.Prelude.{option_map, unwrap_or, string_bytes, nat_eq, if◌then◌else◌}
-use Rattle.language.specs.declared.types.TypeModifier.{TypeModifier}
-use Rattle.language.specs.declared.types.TypeModifier.TheVariants as m
-use Rattle.language.specs.declared.value.InputValue.{InputValue}
-use Rattle.language.specs.declared.value.InputValue.TheOpen as v
-use Rattle.language.specs.declared.value.InputValue.TheFolds.{rec-InputValue}
-use Rattle.language.specs.Types.{TypeShape, shape, printed}
-use Rattle.language.specs.Values.{Entry}
+use Rattle.language_types.specs.declared.types.TypeModifier.{TypeModifier}
+use Rattle.language_types.specs.declared.types.TypeModifier.TheVariants as m
+use Rattle.language_values.specs.declared.value.InputValue.{InputValue}
+use Rattle.language_values.specs.declared.value.InputValue.TheOpen as v
+use Rattle.language_values.specs.declared.value.InputValue.TheFolds.{rec-InputValue}
+use Rattle.language_types.specs.Types.{TypeShape, shape, printed}
+use Rattle.language_values.specs.Values.{Entry}
 use Rattle.meta.specs.declared.arguments.Argument.{Argument}
 use Rattle.meta.specs.declared.kinds.MetaTypeOf.{MetaTypeOf}
 use Rattle.meta.specs.declared.kinds.MetaTypeOf.TheVariants as k

@@ -1,7 +1,7 @@
 -- Laws of faults.
 use Rattle.std.specs.Prelude.{◌≡◌, ◌⊎◌, ℕ, List, Option, Result}
-use Rattle.language.specs.declared.error.CheckError.{CheckError}
-use Rattle.language.specs.declared.value.InputValue.{InputValue}
+use Rattle.language_types.specs.declared.error.CheckError.{CheckError}
+use Rattle.language_values.specs.declared.value.InputValue.{InputValue}
 use Rattle.meta.specs.Answers.{Answers, Accepts, RefusesWith, SameAnswer}
 use Rattle.schema.specs.Catalog.{Catalog}
 use Rattle.schema.specs.Wrapped.{WrappedMeta}

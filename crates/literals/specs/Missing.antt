@@ -1,8 +1,8 @@
 -- The input fields that an object lacks (section 5.6.4).
 use Rattle.std.specs.Prelude.{ℕ, List, [], ◌∷◌, ◌++◌, Option, Some, None, is_some, Bool, not, ◌&&◌, fold, string_bytes}
 use Rattle.std.specs.Prelude.{if◌then◌else◌}
-pub use Rattle.language.specs.Types.{is_never_null}
-use Rattle.language.specs.Types.{shape}
+pub use Rattle.language_types.specs.Types.{is_never_null}
+use Rattle.language_types.specs.Types.{shape}
 use Rattle.meta.specs.declared.arguments.Argument.{Argument}
 use Rattle.schema.specs.Possible.{is_among}
 use Rattle.literals.specs.Texts.{missing_text}

@@ -4,8 +4,8 @@ ghost use Rattle.literals.specs.Begun.{told, told_of};
 
 use crate::expected::Expected;
 use crate::texts::add_field_start;
-use language::position::Spanning;
-use language::value::InputValue;
+use language_types::position::Spanning;
+use language_values::value::InputValue;
 use meta::kinds::MetaTypeOf;
 use std::alloc::{AllocError, Global};
 

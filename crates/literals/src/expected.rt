@@ -1,6 +1,6 @@
 //! The types that values are checked against.
 ghost use Rattle.std.specs.Prelude.{◌≡◌, IfSome, Some, option_map, true};
-ghost use Rattle.language.specs.Types.{borrowed_shape, shape};
+ghost use Rattle.language_types.specs.Types.{borrowed_shape, shape};
 ghost use Rattle.schema_validation.specs.Accepted.{is_listed};
 ghost use Rattle.schema_validation.specs.Names.{argument_type};
 ghost use Rattle.schema.specs.Wrapped.{wrapped_of};
@@ -8,7 +8,7 @@ ghost use Rattle.literals.specs.Expected.{expected_type, IsLayerOf};
 ghost use Rattle.literals.specs.InSchema.{IsInSchema};
 ghost use Rattle.literals.specs.Judged.{IsTypeOf, printed_name, printed_type, written_type};
 
-use language::types::{BorrowedType, TypeModifier, print_type};
+use language_types::types::{BorrowedType, TypeModifier, print_type};
 use meta::arguments::Argument;
 use meta::kinds::MetaTypeOf;
 use schema::model::{SchemaTypeOf, TypeTypeOf};

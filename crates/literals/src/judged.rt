@@ -2,7 +2,7 @@
 ghost use Rattle.std.specs.Prelude.{◌≡◌, ◌∷◌, IfOk, List, None, OnOk, Option, Some, option_map, reverse, string_bytes};
 ghost use Rattle.std.specs.Prelude.{ℕ};
 ghost use Rattle.std.specs.List.{All};
-ghost use Rattle.language.specs.ValuesPrinted.{printed_value};
+ghost use Rattle.language_values.specs.ValuesPrinted.{printed_value};
 ghost use Rattle.meta.specs.Kinds.{check_of_meta};
 ghost use Rattle.schema.specs.Wrapped.{plain_meta, wrapped_of};
 ghost use Rattle.literals.specs.AnyLiteral.{takes_any};
@@ -22,9 +22,9 @@ use crate::texts::{
     enum_fault, length_fault, list_fault, no_check_fault, no_object_fault, null_fault,
     unknown_fault, value_fault,
 };
-use language::error::{CheckError, OutOfMemory};
-use language::position::Spanning;
-use language::value::InputValue;
+use language_types::error::{CheckError, OutOfMemory};
+use language_types::position::Spanning;
+use language_values::value::InputValue;
 use meta::check::CheckedScalar;
 use meta::kinds::MetaTypeOf;
 use schema::model::{Dialect, SchemaType, SchemaTypeOf, TypeType};

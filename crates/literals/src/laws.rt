@@ -1,6 +1,6 @@
 //! Laws about faults.
 
-ghost use Rattle.language.specs.ValuesPrinted.{printed_value};
+ghost use Rattle.language_values.specs.ValuesPrinted.{printed_value};
 ghost use Rattle.literals.specs.Laws.{AnswersAll, OneFault, SomeFault};
 ghost use Rattle.schema.specs.Catalog.{Catalog};
 

@@ -1,15 +1,15 @@
 //! Required input fields that an object lacks (section 5.6.4).
 ghost use Rattle.std.specs.Prelude.{◌≡◌, IfOk, option_map, string_bytes};
-ghost use Rattle.language.specs.References.{list_copied};
+ghost use Rattle.language_types.specs.References.{list_copied};
 ghost use Rattle.meta.specs.Kinds.{input_fields_of};
 ghost use Rattle.schema.specs.Possible.{is_among};
 ghost use Rattle.literals.specs.Judged.{keys_of, printed_name};
 ghost use Rattle.literals.specs.Missing.{is_lacking, is_required, missing, missing_fault};
 
 use crate::texts::missing_fields_fault;
-use language::error::OutOfMemory;
-use language::position::Spanning;
-use language::value::InputValue;
+use language_types::error::OutOfMemory;
+use language_types::position::Spanning;
+use language_values::value::InputValue;
 use meta::arguments::Argument;
 use meta::kinds::MetaTypeOf;
 use std::alloc::Global;

@@ -1,8 +1,8 @@
 //! The cases of a value and a type.
 ghost use Rattle.std.specs.Prelude.{◌≡◌, ℕ, List, Option, is_some};
-ghost use Rattle.language.specs.declared.value.InputValue.{out-InputValue};
-ghost use Rattle.language.specs.Values.{list_items};
-ghost use Rattle.language.specs.ValuesPrinted.{printed_value};
+ghost use Rattle.language_values.specs.declared.value.InputValue.{out-InputValue};
+ghost use Rattle.language_values.specs.Values.{list_items};
+ghost use Rattle.language_values.specs.ValuesPrinted.{printed_value};
 ghost use Rattle.schema.specs.Catalog.{Catalog};
 ghost use Rattle.literals.specs.Expected.{expected_type};
 ghost use Rattle.literals.specs.Judged.{other_length};
@@ -10,7 +10,7 @@ ghost use Rattle.literals.specs.Rows.{IsRowOf, IsStepOf, IsShorter, item_count, 
 ghost use Rattle.literals.specs.Rows.{IsListStep};
 
 use crate::expected::{Expected, Layer};
-use language::value::InputValue;
+use language_values::value::InputValue;
 use meta::check::CheckedScalar;
 use meta::kinds::MetaTypeOf;
 

@@ -1,14 +1,14 @@
 //! The texts of faults.
 ghost use Rattle.std.specs.Prelude.{◌≡◌, ◌++◌, IfOk, List, OnOk, codes, map, string_bytes, ℕ};
-ghost use Rattle.language.specs.ValuesPrinted.{printed_value, comma_separated};
+ghost use Rattle.language_values.specs.ValuesPrinted.{printed_value, comma_separated};
 ghost use Rattle.literals.specs.Expected.{expected_type};
 ghost use Rattle.literals.specs.Judged.{printed_name, printed_type};
 ghost use Rattle.literals.specs.Texts.{null_text, enum_text, value_text, no_check_text, list_text, no_object_text};
 ghost use Rattle.literals.specs.Texts.{field_text, unknown_text, length_text, missing_text, quoted};
 
 use crate::expected::{Expected, name_text};
-use language::scalar::ScalarValue;
-use language::value::InputValue;
+use language_values::scalar::ScalarValue;
+use language_values::value::InputValue;
 use meta::kinds::MetaTypeOf;
 use std::alloc::{AllocError, Global};
 

@@ -1,14 +1,14 @@
 //! The check of values against references to types.
 ghost use Rattle.std.specs.Prelude.{◌≡◌, IfOk, List, Option, option_map, string_bytes, ℕ};
-ghost use Rattle.language.specs.Types.{borrowed_shape};
-ghost use Rattle.language.specs.ValuesPrinted.{printed_value};
+ghost use Rattle.language_types.specs.Types.{borrowed_shape};
+ghost use Rattle.language_values.specs.ValuesPrinted.{printed_value};
 ghost use Rattle.literals.specs.Judged.{WrittenFault};
 
 use crate::expected::type_written;
 use crate::judged::fault_of;
-use language::error::OutOfMemory;
-use language::types::BorrowedType;
-use language::value::InputValue;
+use language_types::error::OutOfMemory;
+use language_types::types::BorrowedType;
+use language_values::value::InputValue;
 use meta::check::CheckedScalar;
 use schema::model::SchemaType;
 use std::alloc::Global;

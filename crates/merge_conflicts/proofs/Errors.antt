@@ -1,7 +1,7 @@
 -- The error of what is told, and the errors of what is left.
 use Rattle.std.proofs.Common.{◌≡◌, ℕ, List, [], ◌∷◌, ◌++◌, map, Bool, sym, ap, ◌∙◌, append_assoc, codes, string_bytes}
 use Rattle.std.proofs.lemmas.List.{append-nil, map-append}
-use Rattle.language.specs.declared.position.SourcePosition.{SourcePosition}
+use Rattle.language_types.specs.declared.position.SourcePosition.{SourcePosition}
 use Rattle.schema.specs.Catalog.{Catalog}
 use Rattle.merge_field_pairs.specs.Entries.{PlainEntry}
 use Rattle.merge_field_pairs.specs.Texts.{message_text}

@@ -1,7 +1,7 @@
 -- What is written of conflicts.
 use Rattle.std.specs.Prelude.{◌≡◌, ℕ, List, [], ◌∷◌, ◌++◌, Bool, map, slice_get, Some, codes, string_bytes}
 use Rattle.std.specs.List.{flat_map}
-use Rattle.language.specs.declared.position.SourcePosition.{SourcePosition}
+use Rattle.language_types.specs.declared.position.SourcePosition.{SourcePosition}
 use Rattle.merge_sets.specs.declared.node.Entry.{Entry}
 use Rattle.schema.specs.Catalog.{Catalog}
 use Rattle.merge_field_pairs.specs.Entries.{PlainEntry}

@@ -4,9 +4,9 @@ ghost use Rattle.merge_field_pairs.specs.Entries.{plain};
 ghost use Rattle.merge_conflicts.specs.Telling.{Adds};
 ghost use Rattle.merge_conflicts.specs.Texts.{place_of, reason_between};
 
-use language::error::OutOfMemory;
-use language::position::SourcePosition;
-use language::scalar::ScalarValue;
+use language_types::error::OutOfMemory;
+use language_types::position::SourcePosition;
+use language_values::scalar::ScalarValue;
 use merge_field_pairs::direct::direct_reason;
 use merge_field_pairs::entry::Entry;
 use merge_field_pairs::texts::reason_text;

@@ -5,7 +5,7 @@ ghost use Rattle.merge_sets.specs.declared.node.Entry as numbered;
 ghost use Rattle.merge_conflicts.specs.Reports.{Reports, postfix};
 ghost use Rattle.merge_conflicts.specs.Parts.{part_of, ArePartsOf, IsLastPart, extent};
 
-use language::error::OutOfMemory;
+use language_types::error::OutOfMemory;
 use merge_sets::finding::Finding;
 use merge_sets::node::Entry;
 use std::alloc::Global;

@@ -13,8 +13,8 @@ ghost use Rattle.merge_conflicts.specs.Texts.{Told, told};
 
 use crate::account::{Account, add_name, add_places, add_reason, add_text};
 use crate::parts::{Part, Why, parts_of};
-use language::error::OutOfMemory;
-use language::scalar::ScalarValue;
+use language_types::error::OutOfMemory;
+use language_values::scalar::ScalarValue;
 use merge_field_pairs::entry::Entry;
 use merge_sets::finding::Finding;
 use schema::model::SchemaTypeOf;

@@ -5,9 +5,9 @@ use Rattle.std.specs.Option.{option_or}
 use denote.Ref.{Bor}
 use Rattle.std.specs.declared.vec.Vec.{Vec}
 use Rattle.std.specs.declared.alloc.Global.{Global}
-use Rattle.language.specs.Each.{Each, EachIfThere}
+use Rattle.language_values.specs.Each.{Each, EachIfThere}
 use Rattle.language.proofs.Induction.{selection_induction}
-use Rattle.language.proofs.Members.{Each-In}
+use Rattle.language_values.proofs.Members.{Each-In}
 use Rattle.language.specs.declared.tree.Selection.{Selection}
 use Rattle.language.specs.declared.tree.Selection.TheVariants as selection
 use Rattle.language.specs.declared.tree.Field.{Field}

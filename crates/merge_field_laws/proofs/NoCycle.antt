@@ -3,10 +3,10 @@ use Rattle.std.proofs.Common.{◌≡◌, ℕ, zero, suc, ◌+◌, ◌≤◌, Lis
 use Rattle.std.specs.List.{list_any}
 use Rattle.std.specs.Str.{bytes_eq}
 use Rattle.std.proofs.lemmas.Bool.{and_from, or_cases, not_from_false, cases_Bool}
-use Rattle.language.specs.ValuesEqual.{are_distinct}
+use Rattle.language_values.specs.ValuesEqual.{are_distinct}
 use Rattle.language.specs.declared.tree.Definition.{Definition}
 use Rattle.language.specs.declared.tree.Definition.TheVariants as definition
-use Rattle.language.proofs.Members.{In, all_listed, list_any-from_key, bytes_eq-same}
+use Rattle.language_values.proofs.Members.{In, all_listed, list_any-from_key, bytes_eq-same}
 use Rattle.fragment_graph.specs.Spreads.{PlacedSpread, placed_spreads_of_all, spreads_of_name, spreads_named}
 use Rattle.fragment_graph.specs.DocumentCycles.{NameSpreads, NamePath, name_step, name_more, HasNoCycle}
 use Rattle.fragment_graph.proofs.Lists.{same_some, none_some, contains_get}

@@ -7,13 +7,13 @@ use Rattle.std.specs.Cmp.{IsEquivalence}
 use Rattle.std.specs.Str.{bytes_eq}
 use Rattle.std.proofs.lemmas.Bool.{and_parts, and_from, eq-eqb, eqb-true, both_ways}
 use Rattle.std.proofs.lemmas.List.{length-map}
-use Rattle.language.specs.ValuesEqual.{unlocated_eq, are_distinct, has_unique_keys}
-use Rattle.language.specs.declared.position.Span.{Span}
-use Rattle.language.specs.declared.position.Spanning.{Spanning}
+use Rattle.language_values.specs.ValuesEqual.{unlocated_eq, are_distinct, has_unique_keys}
+use Rattle.language_types.specs.declared.position.Span.{Span}
+use Rattle.language_types.specs.declared.position.Spanning.{Spanning}
 use Rattle.language.specs.declared.tree.Arguments.{Arguments}
-use Rattle.language.specs.declared.value.InputValue.{InputValue}
-use Rattle.language.proofs.Members.{In, list_all-In, list_all-from_In, In-from_key, list_any-from_key, bytes_eq-same, bytes_eq-refl, same_from_key, all_listed}
-use Rattle.language.proofs.ValueLaws.{unlocated_eq-reflexive, unlocated_eq-symmetric}
+use Rattle.language_values.specs.declared.value.InputValue.{InputValue}
+use Rattle.language_values.proofs.Members.{In, list_all-In, list_all-from_In, In-from_key, list_any-from_key, bytes_eq-same, bytes_eq-refl, same_from_key, all_listed}
+use Rattle.language_values.proofs.ValueLaws.{unlocated_eq-reflexive, unlocated_eq-symmetric}
 use Rattle.merge_field_pairs.specs.SameArguments.{Given, given_name, are_tidy, is_given, are_given, same_arguments}
 use Rattle.merge_field_pairs.proofs.EqualThrough.{unlocated_eq-through}
 

@@ -5,16 +5,16 @@ use Rattle.std.specs.Str.{bytes_eq}
 use Rattle.std.specs.Cmp.{IsEquivalence}
 use Rattle.std.specs.Cmp.Lexicographic.{pointwise, nat_list_eq_equiv}
 use Rattle.std.proofs.lemmas.Bool.{and_parts, and_from, eq-eqb, eqb-true}
-use Rattle.language.specs.declared.position.Span.{Span}
-use Rattle.language.specs.declared.position.Spanning.{Spanning}
-use Rattle.language.specs.declared.value.InputValue.{InputValue, ind-InputValue, map-InputValue, roll-InputValue}
-use Rattle.language.specs.declared.value.InputValue.TheOpen as open_value
-use Rattle.language.specs.Each.{Each}
-use Rattle.language.specs.Values.{Entry}
-use Rattle.language.specs.ValuesEqual.{entry_in, eq_layer, unlocated_eq}
-use Rattle.language.proofs.Induction.{SuchValue, bare, bare_entry, each_item, each_entry}
-use Rattle.language.proofs.Members.{In, Each-In, list_all-In, list_all-from_In, list_any-In, In-from_list_any, bytes_eq-same, bytes_eq-refl}
-use Rattle.language.proofs.ValueLemmas.{inside, opened, unlocated_eq-roll, pointwise-map_left, list_all-map}
+use Rattle.language_types.specs.declared.position.Span.{Span}
+use Rattle.language_types.specs.declared.position.Spanning.{Spanning}
+use Rattle.language_values.specs.declared.value.InputValue.{InputValue, ind-InputValue, map-InputValue, roll-InputValue}
+use Rattle.language_values.specs.declared.value.InputValue.TheOpen as open_value
+use Rattle.language_values.specs.Each.{Each}
+use Rattle.language_values.specs.Values.{Entry}
+use Rattle.language_values.specs.ValuesEqual.{entry_in, eq_layer, unlocated_eq}
+use Rattle.language_values.proofs.ValueInduction.{SuchValue, bare, bare_entry, each_item, each_entry}
+use Rattle.language_values.proofs.Members.{In, Each-In, list_all-In, list_all-from_In, list_any-In, In-from_list_any, bytes_eq-same, bytes_eq-refl}
+use Rattle.language_values.proofs.ValueLemmas.{inside, opened, unlocated_eq-roll, pointwise-map_left, list_all-map}
 use Rattle.std.proofs.lemmas.List.{length-map}
 
 abbrev key_of : {A : Type 0} → Entry A → List ℕ

@@ -2,7 +2,7 @@
 use Rattle.std.proofs.Common.{◌≡◌, ℕ, List, Bool, true, false, ◌||◌, Option, Some, None, slice_get, option_and_then, refl, sym, ap, ◌∙◌}
 use Rattle.std.specs.Cmp.{IsEquivalence}
 use Rattle.std.specs.Str.{bytes_eq}
-use Rattle.language.specs.Types.{TypeShape}
+use Rattle.language_types.specs.Types.{TypeShape}
 use Rattle.meta.specs.declared.fields.Field as metadata
 use Rattle.schema.specs.Catalog.{Catalog}
 use Rattle.merge_field_pairs.specs.Entries.{PlainEntry, exclusive_of, are_different, object_name}

@@ -2,7 +2,7 @@
 use Rattle.std.proofs.Common.{◌≡◌, ℕ, List, Bool, true, false, not, Option, Some, None, slice_get, option_and_then, refl, suc, ap}
 use Rattle.std.specs.Option.{option_map_or}
 use Rattle.std.specs.Str.{bytes_eq}
-use Rattle.language.proofs.Members.{bytes_eq-same}
+use Rattle.language_values.proofs.Members.{bytes_eq-same}
 use Rattle.name_tables.specs.Slots.{slot_number}
 use Rattle.merge_field_pairs.specs.Entries.{PlainEntry, are_different, exclusive_of, object_name}
 use Rattle.merge_field_pairs.specs.Numbered.{exclusive_between, exclusive_at}

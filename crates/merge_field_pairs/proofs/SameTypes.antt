@@ -3,12 +3,12 @@ use Rattle.std.proofs.Common.{◌≡◌, ℕ, List, Bool, Option, Some, None, na
 use Rattle.std.specs.Bool.{Decides}
 use Rattle.std.specs.Cmp.Lexicographic.{pointwise}
 use Rattle.std.specs.Option.{option_eq}
-use Rattle.language.specs.Types.{TypeShape}
+use Rattle.language_types.specs.Types.{TypeShape}
 use Rattle.std.proofs.lemmas.Bool.Decides.{Decides-eqb, Decides-like}
 use Rattle.std.proofs.lemmas.Slice.Eq.{slice_eq-Decides}
-use Rattle.language.specs.declared.types.TypeModifier.{TypeModifier}
-use Rattle.language.specs.declared.types.TypeModifier.TheVariants as m
-use Rattle.language.specs.contracts.types.TypeModifierPartialEq.TheImpl.{eq-value}
+use Rattle.language_types.specs.declared.types.TypeModifier.{TypeModifier}
+use Rattle.language_types.specs.declared.types.TypeModifier.TheVariants as m
+use Rattle.language_types.specs.contracts.types.TypeModifierPartialEq.TheImpl.{eq-value}
 
 sizes : (j k : Option ℕ) → Decides (option_eq nat_eq j k) (j ≡ k)
 sizes None None = (λ h. refl, λ h. refl)

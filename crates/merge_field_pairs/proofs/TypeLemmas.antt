@@ -3,9 +3,9 @@ use Rattle.std.proofs.Common.{◌≡◌, ◌+◌, ◌-◌, ◌<◌, List, [], �
 use Rattle.std.proofs.lemmas.List.{take_all, take_more, reverse-append, length-take}
 use Rattle.std.proofs.lemmas.Option.{slice_get_within, slice_get-get_or, get_or_from_slice_get}
 use Rattle.std.specs.Option.{option_eq}
-use Rattle.language.specs.Types.{TypeShape, outermost, inner_of}
-use Rattle.language.specs.declared.types.TypeModifier.{TypeModifier}
-use Rattle.language.specs.declared.types.TypeModifier.TheVariants as m
+use Rattle.language_types.specs.Types.{TypeShape, outermost, inner_of}
+use Rattle.language_types.specs.declared.types.TypeModifier.{TypeModifier}
+use Rattle.language_types.specs.declared.types.TypeModifier.TheVariants as m
 use Rattle.merge_field_pairs.specs.declared.type_conflict.Settled.{Settled}
 use Rattle.merge_field_pairs.specs.declared.type_conflict.Settled.TheVariants as s
 use Rattle.schema.specs.Catalog.{Catalog}

@@ -1,6 +1,6 @@
 -- Fields that are plainly alike (section 5.3.2).
 use Rattle.std.specs.Prelude.{◌≡◌, ℕ, List, Bool, true, Option, Some, None, option_map, slice_get}
-use Rattle.language.specs.Types.{TypeShape, shape}
+use Rattle.language_types.specs.Types.{TypeShape, shape}
 use Rattle.meta.specs.declared.fields.Field as metadata
 use Rattle.merge_field_pairs.specs.Entries.{PlainEntry}
 use Rattle.merge_field_pairs.specs.SameArguments.{same_arguments}

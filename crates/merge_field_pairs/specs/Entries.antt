@@ -3,8 +3,8 @@ use Rattle.std.specs.Prelude.{◌≡◌, ℕ, List, Bool, true, false, not, ◌|
 use Rattle.std.specs.Prelude.{string_bytes}
 use Rattle.std.specs.Option.{option_map_or, option_copied}
 use Rattle.std.specs.Str.{bytes_eq}
-use Rattle.language.specs.declared.position.Span.{Span}
-use Rattle.language.specs.declared.position.Spanning.{Spanning}
+use Rattle.language_types.specs.declared.position.Span.{Span}
+use Rattle.language_types.specs.declared.position.Spanning.{Spanning}
 use Rattle.language.specs.declared.tree.Field.{Field}
 use Rattle.meta.specs.declared.fields.Field as metadata
 use Rattle.meta.specs.declared.kinds.MetaTypeOf.{MetaTypeOf}

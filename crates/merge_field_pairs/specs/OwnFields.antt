@@ -4,8 +4,8 @@ use Rattle.std.specs.Prelude.{ℕ, List, [], ◌∷◌, Option, option_and_then}
 use Rattle.std.specs.List.{flat_map}
 use Rattle.std.specs.Option.{option_or}
 use denote.Ref.{Bor}
-use Rattle.language.specs.Types.{shape}
-pub use Rattle.language.specs.Position.{Placed}
+use Rattle.language_types.specs.Types.{shape}
+pub use Rattle.language_types.specs.Position.{Placed}
 use Rattle.language.specs.declared.tree.Selection.{Selection, fold-Selection}
 use Rattle.language.specs.declared.tree.Selection.TheOpen as opened
 use Rattle.language.specs.declared.tree.Selection.TheFolds.{para-Selection}

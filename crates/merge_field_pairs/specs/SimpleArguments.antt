@@ -1,11 +1,11 @@
 -- Arguments that are compared without memory.
 use Rattle.std.specs.Prelude.{◌≡◌, Option, Some, None}
 use Rattle.std.specs.List.{All}
-use Rattle.language.specs.Values.{list_items, object_entries}
-use Rattle.language.specs.declared.position.Span.{Span}
-use Rattle.language.specs.declared.position.Spanning.{Spanning}
+use Rattle.language_values.specs.Values.{list_items, object_entries}
+use Rattle.language_types.specs.declared.position.Span.{Span}
+use Rattle.language_types.specs.declared.position.Spanning.{Spanning}
 use Rattle.language.specs.declared.tree.Arguments.{Arguments}
-use Rattle.language.specs.declared.value.InputValue.{InputValue}
+use Rattle.language_values.specs.declared.value.InputValue.{InputValue}
 use Rattle.merge_field_pairs.specs.Entries.{PlainEntry}
 
 module _ {S : Type 0} where

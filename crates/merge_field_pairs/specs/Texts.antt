@@ -1,7 +1,7 @@
 -- The texts of what stands between two fields, of what stands below them, and of the error.
 use Rattle.std.specs.Prelude.{ℕ, List, [], ◌++◌, Option, Some, codes}
 use Rattle.std.specs.List.{join_by}
-use Rattle.language.specs.Types.{TypeShape, shape, printed}
+use Rattle.language_types.specs.Types.{TypeShape, shape, printed}
 use Rattle.meta.specs.declared.fields.Field as metadata
 use Rattle.merge_field_pairs.specs.declared.direct.DirectReason.{DirectReason}
 use Rattle.merge_field_pairs.specs.declared.direct.DirectReason.TheVariants as reason

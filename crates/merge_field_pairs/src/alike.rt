@@ -1,7 +1,7 @@
 //! Fields that are plainly alike, so that no two of them conflict, wherever they stand.
 ghost use Rattle.std.specs.Prelude.{◌≡◌, IsTrue, option_map, option_copied};
 ghost use Rattle.std.specs.Bool.{Decides, OnTrue};
-ghost use Rattle.language.specs.Types.{shape};
+ghost use Rattle.language_types.specs.Types.{shape};
 ghost use Rattle.merge_field_pairs.specs.Entries.{plain};
 ghost use Rattle.merge_field_pairs.specs.SimpleArguments.{HasSimpleArguments};
 ghost use Rattle.merge_field_pairs.specs.Alike.{AreAlike, known_type};

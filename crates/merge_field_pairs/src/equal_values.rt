@@ -3,7 +3,7 @@ ghost use Rattle.std.specs.Prelude.{◌≡◌, ◌&&◌, length, nat_eq, string_
 ghost use Rattle.std.specs.Bool.{OnTrue};
 ghost use Rattle.std.specs.List.{list_all};
 ghost use Rattle.std.specs.Cmp.Lexicographic.{pointwise};
-ghost use Rattle.language.specs.ValuesEqual.{unlocated_eq, entry_in};
+ghost use Rattle.language_values.specs.ValuesEqual.{unlocated_eq, entry_in};
 ghost use Rattle.merge_field_pairs.specs.SimpleArguments.{IsSimple};
 
 use language::position::Spanning;

@@ -1,6 +1,6 @@
 //! The texts for two fields that can't be merged: the reasons themselves, those below a field, and the error's message.
 ghost use Rattle.std.specs.Prelude.{◌≡◌, IfOk, codes, map, string_bytes};
-ghost use Rattle.language.specs.Types.{shape};
+ghost use Rattle.language_types.specs.Types.{shape};
 ghost use Rattle.merge_field_pairs.specs.Entries.{plain};
 ghost use Rattle.merge_field_pairs.specs.Texts.{direct_text, names_text, arguments_text, types_text, nested_text};
 ghost use Rattle.merge_field_pairs.specs.Texts.{joined, message_text};

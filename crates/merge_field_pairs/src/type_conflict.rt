@@ -1,6 +1,6 @@
 //! Whether two types can't stand in one place of a response.
 ghost use Rattle.std.specs.Prelude.{◌≡◌, option_copied};
-ghost use Rattle.language.specs.Types.{shape, borrowed_shape};
+ghost use Rattle.language_types.specs.Types.{shape, borrowed_shape};
 ghost use Rattle.merge_field_pairs.specs.TypeConflict.{settled_of, is_leaf_named, do_names_conflict, do_types_conflict};
 ghost use Rattle.merge_field_pairs.specs.TypeConflict.{conflict_by_outermost};
 

@@ -3,7 +3,7 @@ use Rattle.std.proofs.Common.{◌≡◌, ◌≤◌, ℕ, ◌+◌, zero, suc, Lis
 use Rattle.std.specs.List.{flat_map, sum_by}
 use Rattle.std.proofs.lemmas.List.Sums.{sum_by-cons}
 use Rattle.language.specs.declared.tree.Definition.{Definition}
-use Rattle.language.proofs.InsideLaws.{sum_by-map}
+use Rattle.language_values.proofs.InsideLaws.{sum_by-map}
 use Rattle.fragment_graph.proofs.Lists.{same_some}
 use Rattle.merge_sets.specs.declared.node.SetNode.{SetNode}
 use Rattle.merge_set_table.specs.declared.table.NumberedSet.{NumberedSet}

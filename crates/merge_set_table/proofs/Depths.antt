@@ -11,7 +11,7 @@ use Rattle.language.specs.declared.tree.Field.{Field, fold_out-Field, out-Field,
 use Rattle.language.specs.declared.tree.FragmentSpread.{FragmentSpread}
 use Rattle.language.specs.declared.tree.InlineFragment.{InlineFragment, fold_out-InlineFragment, out-InlineFragment, fold-InlineFragment}
 use Rattle.language.specs.SelectionsInside.{selections_inside, all_inside}
-use Rattle.language.proofs.InsideLaws.{sum_by-map}
+use Rattle.language_values.proofs.InsideLaws.{sum_by-map}
 use Rattle.fragment_graph.specs.Preorder.{set_in, set_inside}
 use Rattle.fragment_graph.proofs.PreorderLaws.{inside_set, set_inside-Field, set_inside-Inline}
 use Rattle.merge_field_pairs.specs.OwnFields.{Placed}

@@ -1,7 +1,7 @@
 -- One name more.
 use Rattle.std.proofs.Common.{◌≡◌, ℕ, ◌+◌, ◌<◌, List, Option, Some, None, Bool, true, false, cond, refl, sym, ap, subst, ◌∙◌, arith, ◌⊎◌, inl, inr}
 use Rattle.std.specs.Str.{bytes_eq}
-use Rattle.language.proofs.Members.{bytes_eq-same, bytes_eq-refl}
+use Rattle.language_values.proofs.Members.{bytes_eq-same, bytes_eq-refl}
 use Rattle.std.specs.Option.{is_some}
 use Rattle.std.specs.Prelude.{if◌then◌else◌}
 use Rattle.std.specs.BTreeMap.{btree_map_len}

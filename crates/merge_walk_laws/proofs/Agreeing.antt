@@ -2,8 +2,8 @@
 use Rattle.std.proofs.Common.{◌≡◌, List, [], Some, None, map, Bool, inl, refl, ap, sym, ◌∙◌, subst}
 use Rattle.std.specs.List.{Contains, list_all}
 use Rattle.std.proofs.lemmas.Bool.{and_parts, and_from}
-use Rattle.language.proofs.Members.{list_all-In, list_all-from_In}
-use Rattle.language.specs.ValuesEqual.{are_distinct, has_unique_keys}
+use Rattle.language_values.proofs.Members.{list_all-In, list_all-from_In}
+use Rattle.language_values.specs.ValuesEqual.{are_distinct, has_unique_keys}
 use Rattle.language.specs.declared.tree.Selection.TheVariants as selection
 use Rattle.merge_field_pairs.specs.SameArguments.{Given, given_name}
 use Rattle.merge_field_pairs.specs.OwnFields.{entry_under}

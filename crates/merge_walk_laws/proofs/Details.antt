@@ -2,13 +2,13 @@
 use Rattle.std.proofs.Common.{◌≡◌, List, Option, Bool, true, false, refl, sym, subst}
 use Rattle.std.specs.declared.vec.Vec.{Vec}
 use Rattle.std.specs.declared.alloc.Global.{Global}
-use Rattle.language.proofs.Induction.{value_induction}
-use Rattle.language.proofs.Members.{Each-In}
-use Rattle.language.specs.declared.position.Span.{Span}
+use Rattle.language_values.proofs.ValueInduction.{value_induction}
+use Rattle.language_values.proofs.Members.{Each-In}
+use Rattle.language_types.specs.declared.position.Span.{Span}
 use Rattle.language.specs.declared.tree.Arguments.{Arguments}
 use Rattle.language.specs.declared.tree.Directive.{Directive}
 use Rattle.language.specs.declared.tree.VariableDefinitions.{VariableDefinitions}
-use Rattle.language.specs.declared.value.InputValue.{InputValue}
+use Rattle.language_values.specs.declared.value.InputValue.{InputValue}
 use Rattle.meta.specs.declared.arguments.Argument.{Argument}
 use Rattle.schema.specs.Catalog.{Catalog}
 use Rattle.events.specs.Node.{Node, Placed, ArgumentEntry, ObjectEntry, VariableEntry}

@@ -2,8 +2,8 @@
 use Rattle.std.proofs.Common.{◌≡◌, ℕ, List, Option, Some, None, true, false, refl, ap, sym, ◌∙◌, option_and_then}
 use Rattle.std.specs.Option.{option_map, option_map_or}
 use Rattle.std.specs.Str.{bytes_eq}
-use Rattle.language.proofs.Members.{bytes_eq-same}
-use Rattle.language.specs.Types.{shape, non_null_named}
+use Rattle.language_values.proofs.Members.{bytes_eq-same}
+use Rattle.language_types.specs.Types.{shape, non_null_named}
 use Rattle.language.specs.declared.tree.Definition.{Definition}
 use Rattle.language.specs.declared.tree.Definition.TheVariants as definition
 use Rattle.language.specs.declared.tree.Field.{Field}

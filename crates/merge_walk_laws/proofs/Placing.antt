@@ -4,9 +4,9 @@ use Rattle.std.specs.List.{Contains}
 use Rattle.std.specs.declared.vec.Vec.{Vec}
 use Rattle.std.specs.declared.alloc.Global.{Global}
 use Rattle.std.proofs.lemmas.Bool.{true≢false}
-use Rattle.language.specs.Each.{Each, EachIfThere}
+use Rattle.language_values.specs.Each.{Each, EachIfThere}
 use Rattle.language.proofs.Induction.{selection_induction}
-use Rattle.language.proofs.Members.{In, Each-In}
+use Rattle.language_values.proofs.Members.{In, Each-In}
 use Rattle.language.specs.declared.tree.Definition.{Definition}
 use Rattle.language.specs.declared.tree.Definition.TheVariants as definition
 use Rattle.language.specs.declared.tree.Field.{Field}

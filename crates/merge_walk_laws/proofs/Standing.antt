@@ -4,7 +4,7 @@ use Rattle.std.specs.List.{Contains}
 use Rattle.std.proofs.lemmas.List.Elements.{Contains-append_left, Contains-append_right, Contains-append_cases}
 use Rattle.std.specs.declared.vec.Vec.{Vec}
 use Rattle.std.specs.declared.alloc.Global.{Global}
-use Rattle.language.proofs.Members.{In}
+use Rattle.language_values.proofs.Members.{In}
 use Rattle.events.specs.Node.{Node}
 use Rattle.events.specs.Typing.{Typing}
 use Rattle.events.specs.Occurrence.{Occurrence, occurrences_of}

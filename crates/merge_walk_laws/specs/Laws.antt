@@ -1,7 +1,7 @@
 -- The fields and sets that the search compares are those that occur.
 use Rattle.std.specs.Prelude.{◌≡◌, ◌↔◌, List, Option, true, map}
 use Rattle.std.specs.List.{Contains}
-use Rattle.language.specs.ValuesEqual.{are_distinct, has_unique_keys}
+use Rattle.language_values.specs.ValuesEqual.{are_distinct, has_unique_keys}
 use Rattle.language.specs.declared.tree.Arguments.{Arguments}
 use Rattle.language.specs.declared.tree.Definition.{Definition}
 use Rattle.language.specs.declared.tree.InlineFragment.{InlineFragment}

@@ -4,10 +4,10 @@ use Rattle.std.specs.Prelude.{ℕ, List, Option, Result}
 use Rattle.std.specs.declared.alloc.Global.{Global}
 use denote.Ref.{Bor}
 use denote.Param.Members.{Mut}
-use Rattle.language.specs.declared.value.InputValue.{InputValue}
-use Rattle.language.specs.declared.value.DefaultScalarValue.{DefaultScalarValue}
-use Rattle.language.specs.declared.error.CheckError.{CheckError}
-use Rattle.language.specs.declared.error.ParseError.{ParseError}
+use Rattle.language_values.specs.declared.value.InputValue.{InputValue}
+use Rattle.language_values.specs.declared.value.DefaultScalarValue.{DefaultScalarValue}
+use Rattle.language_types.specs.declared.error.CheckError.{CheckError}
+use Rattle.language_types.specs.declared.error.ParseError.{ParseError}
 use Rattle.meta.specs.declared.default_check.DefaultCheck.{DefaultCheck}
 use Rattle.meta.specs.declared.default_check.ScalarTokenKind.{ScalarTokenKind}
 

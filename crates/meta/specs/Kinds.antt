@@ -4,7 +4,7 @@ use Rattle.std.specs.Prelude.{nat_eq, codes}
 use Rattle.std.specs.List.{starts_with}
 use Rattle.std.specs.Option.{option_map_or}
 use Rattle.std.specs.Str.{bytes_eq}
-use Rattle.language.specs.Types.{TypeShape, shape, non_null_named, non_null_of, nullable_of, list_of}
+use Rattle.language_types.specs.Types.{TypeShape, shape, non_null_named, non_null_of, nullable_of, list_of}
 use Rattle.meta.specs.declared.fields.Field.{Field}
 use Rattle.meta.specs.declared.arguments.Argument.{Argument}
 use Rattle.meta.specs.declared.wrappers.ListMeta.{ListMeta}

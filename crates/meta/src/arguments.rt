@@ -6,9 +6,9 @@ ghost use Rattle.meta.specs.Deprecation.{is_deprecated_status, reason_of};
 
 use crate::deprecation::DeprecationStatus;
 use crate::texts::copy_text;
-use language::error::OutOfMemory;
-use language::types::Type;
-use language::value::InputValue;
+use language_types::error::OutOfMemory;
+use language_types::types::Type;
+use language_values::value::InputValue;
 use std::alloc::Global;
 
 /// An argument of a field (section 3.6.1) or a directive (section 3.13), or a field of an input

@@ -1,12 +1,12 @@
 //! Checks of values.
 ghost use Rattle.std.specs.Prelude.{Result};
 ghost use Rattle.meta.specs.Answers.{SameAnswer};
-ghost use Rattle.language.specs.declared.value.InputValue.{InputValue};
-ghost use Rattle.language.specs.declared.error.CheckError.{CheckError};
+ghost use Rattle.language_values.specs.declared.value.InputValue.{InputValue};
+ghost use Rattle.language_types.specs.declared.error.CheckError.{CheckError};
 
-use language::error::CheckError;
-use language::scalar::ScalarValue;
-use language::value::InputValue;
+use language_types::error::CheckError;
+use language_values::scalar::ScalarValue;
+use language_values::value::InputValue;
 use std::alloc::Global;
 
 /// A type of scalar values together with its type of checks.

@@ -3,8 +3,8 @@ ghost use Rattle.std.specs.Prelude.{◌≡◌};
 ghost use Rattle.meta.specs.Answers.{AnswersAlike, TakesAll};
 
 use crate::check::CheckedScalar;
-use language::error::{CheckError, ParseError};
-use language::value::{DefaultScalarValue, InputValue};
+use language_types::error::{CheckError, ParseError};
+use language_values::value::{DefaultScalarValue, InputValue};
 use std::alloc::Global;
 
 /// A check: `Ok` if the value is of the type, else the text that says why not.

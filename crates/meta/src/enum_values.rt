@@ -4,7 +4,7 @@ ghost use Rattle.meta.specs.Deprecation.{is_deprecated_status, reason_of};
 
 use crate::deprecation::DeprecationStatus;
 use crate::texts::copy_text;
-use language::error::OutOfMemory;
+use language_types::error::OutOfMemory;
 use std::alloc::Global;
 
 /// A value of an enum (section 3.9).

@@ -8,7 +8,7 @@ use crate::check::CheckedScalar;
 use crate::default_check::{DefaultCheck, InputValueParseFn};
 use crate::enum_values::EnumValue;
 use crate::kinds::MetaTypeOf;
-use language::error::OutOfMemory;
+use language_types::error::OutOfMemory;
 use std::alloc::Global;
 
 /// Metadata of an enum (section 3.9), whose check decides which values it has.

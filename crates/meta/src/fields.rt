@@ -8,8 +8,8 @@ ghost use Rattle.meta.specs.Arguments.{arguments_of};
 use crate::arguments::Argument;
 use crate::deprecation::DeprecationStatus;
 use crate::texts::copy_text;
-use language::error::OutOfMemory;
-use language::types::Type;
+use language_types::error::OutOfMemory;
+use language_types::types::Type;
 use std::alloc::Global;
 
 /// A field of an object (section 3.6) or an interface (section 3.7).

@@ -9,8 +9,8 @@ use crate::check::CheckedScalar;
 use crate::default_check::{DefaultCheck, InputValueParseFn};
 use crate::kinds::MetaTypeOf;
 use crate::places::{Places, places_of};
-use language::error::OutOfMemory;
-use language::value::DefaultScalarValue;
+use language_types::error::OutOfMemory;
+use language_values::value::DefaultScalarValue;
 use std::alloc::Global;
 
 /// Metadata of an input object (section 3.10), whose check decides which values it has.

@@ -1,14 +1,14 @@
 //! Interfaces.
 ghost use Rattle.std.specs.Prelude.{◌≡◌, IfOk, None, Some, [], map, option_map, string_bytes};
-ghost use Rattle.language.specs.Types.{shape};
+ghost use Rattle.language_types.specs.Types.{shape};
 ghost use Rattle.meta.specs.Places.{ArePlaces};
 
 use crate::fields::Field;
 use crate::kinds::MetaTypeOf;
 use crate::places::{Places, places_of};
 use crate::texts::innermost_names;
-use language::error::OutOfMemory;
-use language::types::Type;
+use language_types::error::OutOfMemory;
+use language_types::types::Type;
 use std::alloc::Global;
 
 /// Metadata of an interface (section 3.7).

@@ -1,6 +1,6 @@
 //! Metadata of types of any kind.
 ghost use Rattle.std.specs.Prelude.{◌≡◌, IfOk, IsSome, Some, option_copied};
-ghost use Rattle.language.specs.Types.{shape};
+ghost use Rattle.language_types.specs.Types.{shape};
 ghost use Rattle.meta.specs.Kinds.{name_of_meta, description_of_meta, url_of_meta, kind_of_meta, field_named};
 ghost use Rattle.meta.specs.Kinds.{input_field_named, type_of_meta, check_of_meta, is_composite_meta, is_leaf_meta};
 ghost use Rattle.meta.specs.Kinds.{is_abstract_meta, is_input_meta, is_any_literal_meta, is_builtin_meta};
@@ -18,9 +18,9 @@ use crate::scalars::ScalarMetaOf;
 use crate::texts::as_text;
 use crate::unions::UnionMeta;
 use crate::wrappers::{ListMeta, NullableMeta, PlaceholderMeta};
-use language::error::OutOfMemory;
-use language::types::Type;
-use language::value::DefaultScalarValue;
+use language_types::error::OutOfMemory;
+use language_types::types::Type;
+use language_values::value::DefaultScalarValue;
 use std::alloc::Global;
 
 /// The kind of a type, as introspection reports it (section 4.2.2).

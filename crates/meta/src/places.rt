@@ -5,7 +5,7 @@ ghost use Rattle.std.specs.Str.{bytes_eq};
 ghost use Rattle.meta.specs.Places.{AreAscending, ArePlaces, IsFirst, StandFirst, first_place, name_at};
 
 use crate::named::{Named, first_named};
-use language::error::OutOfMemory;
+use language_types::error::OutOfMemory;
 use name_tables::slots::{slot_count, slot_of};
 use std::alloc::Global;
 

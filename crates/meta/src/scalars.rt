@@ -7,7 +7,7 @@ ghost use Rattle.meta.specs.Kept.{scalar_check, taking_any_literal, takes_any_li
 use crate::check::CheckedScalar;
 use crate::default_check::{DefaultCheck, InputValueParseFn, ScalarTokenParseFn};
 use crate::kinds::MetaTypeOf;
-use language::error::OutOfMemory;
+use language_types::error::OutOfMemory;
 use std::alloc::Global;
 
 /// Metadata of a scalar (section 3.5), whose check decides which values it has.

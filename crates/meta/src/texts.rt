@@ -1,9 +1,9 @@
 //! Texts of metadata.
 ghost use Rattle.std.specs.Prelude.{◌≡◌, IfOk, IsOk, None, map, option_map, string_bytes, option_copied};
-ghost use Rattle.language.specs.Types.{shape};
+ghost use Rattle.language_types.specs.Types.{shape};
 
-use language::error::OutOfMemory;
-use language::types::Type;
+use language_types::error::OutOfMemory;
+use language_types::types::Type;
 use std::alloc::Global;
 
 /// The text, if there is one.

@@ -1,11 +1,11 @@
 //! Unions.
 ghost use Rattle.std.specs.Prelude.{◌≡◌, IfOk, None, Some, map, option_map, string_bytes};
-ghost use Rattle.language.specs.Types.{shape};
+ghost use Rattle.language_types.specs.Types.{shape};
 
 use crate::kinds::MetaTypeOf;
 use crate::texts::innermost_names;
-use language::error::OutOfMemory;
-use language::types::Type;
+use language_types::error::OutOfMemory;
+use language_types::types::Type;
 use std::alloc::Global;
 
 /// Metadata of a union (section 3.8).

@@ -2,7 +2,7 @@
 ghost use Rattle.std.specs.Prelude.{◌≡◌};
 
 use crate::kinds::MetaTypeOf;
-use language::types::Type;
+use language_types::types::Type;
 
 /// Metadata of a list (section 3.11).
 #[derive(Drop)]

@@ -3,8 +3,8 @@ use Rattle.std.specs.Prelude.{◌≡◌, true, ℕ, List, [], ◌∷◌, ◌++�
 use Rattle.std.specs.Prelude.{is_none, if◌then◌else◌, codes, string_bytes}
 use Rattle.std.specs.List.{Contains, flat_map}
 use Rattle.language.specs.Pairs.{first_of_name}
-use Rattle.language.specs.Types.{shape, is_never_null, printed}
-use Rattle.language.specs.declared.position.SourcePosition.{SourcePosition}
+use Rattle.language_types.specs.Types.{shape, is_never_null, printed}
+use Rattle.language_types.specs.declared.position.SourcePosition.{SourcePosition}
 use Rattle.language.specs.declared.tree.Arguments.{Arguments}
 use Rattle.language.specs.declared.tree.Directive.{Directive}
 use Rattle.language.specs.declared.tree.Field.{Field}

@@ -1,6 +1,6 @@
 -- Later arguments of a name (section 5.4.2).
 use Rattle.std.specs.Prelude.{◌≡◌, ℕ, List, [], ◌++◌, true, Option, Some, None, map, codes}
-use Rattle.language.specs.ValuesEqual.{are_distinct}
+use Rattle.language_values.specs.ValuesEqual.{are_distinct}
 use Rattle.language.specs.declared.tree.Arguments.{Arguments}
 use Rattle.walk.specs.ContextState.{DocumentScope}
 use Rattle.walk.specs.ErrorValue.{ErrorValue}

@@ -4,7 +4,7 @@ use Rattle.std.specs.Prelude.{codes, map}
 use Rattle.std.specs.declared.alloc.Global.{Global}
 use Rattle.std.specs.declared.vec.Vec.{Vec}
 use Rattle.std.specs.List.{filter, flat_map}
-use Rattle.language.specs.ValuesEqual.{are_distinct}
+use Rattle.language_values.specs.ValuesEqual.{are_distinct}
 use Rattle.language.specs.declared.tree.Directive.{Directive}
 use Rattle.schema.specs.Catalog.{Catalog, directive_in}
 use Rattle.schema_validation.specs.declared.directives.DirectiveType.{DirectiveType}

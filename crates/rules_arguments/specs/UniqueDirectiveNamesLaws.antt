@@ -3,7 +3,7 @@ use Rattle.std.proofs.Common.{◌≡◌, ◌↔◌, ℕ, List, [], ◌∷◌, �
 use Rattle.std.specs.Prelude.{Bool, true, false, Option, Some, None, if◌then◌else◌}
 use Rattle.std.specs.declared.alloc.Global.{Global}
 use Rattle.std.specs.declared.vec.Vec.{Vec}
-use Rattle.language.specs.ValuesEqual.{are_distinct}
+use Rattle.language_values.specs.ValuesEqual.{are_distinct}
 use Rattle.language.specs.declared.tree.Directive.{Directive}
 use Rattle.schema.specs.Catalog.{Catalog}
 use Rattle.walk.specs.ContextState.{DocumentScope}

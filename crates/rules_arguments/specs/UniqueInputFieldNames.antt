@@ -1,6 +1,6 @@
 -- Later keys of an object value (section 5.6.3).
 use Rattle.std.specs.Prelude.{◌≡◌, ℕ, List, [], ◌++◌, true, map, string_bytes, codes}
-use Rattle.language.specs.ValuesEqual.{are_distinct}
+use Rattle.language_values.specs.ValuesEqual.{are_distinct}
 use Rattle.walk.specs.ContextState.{DocumentScope}
 use Rattle.walk.specs.ErrorValue.{ErrorValue}
 use Rattle.events.specs.Node.{Node, object_value}

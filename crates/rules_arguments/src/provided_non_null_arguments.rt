@@ -2,7 +2,7 @@
 
 ghost use Rattle.std.specs.Prelude.{◌≡◌, IfOk, OnOk, OnErr, option_copied, string_bytes};
 ghost use Rattle.std.specs.List.{flat_map};
-ghost use Rattle.language.specs.Types.{is_never_null, printed, shape};
+ghost use Rattle.language_types.specs.Types.{is_never_null, printed, shape};
 ghost use Rattle.walk.specs.ContextState.{typing, with_errors};
 ghost use Rattle.walk.specs.Entering.{everywhere, finding_step, found};
 ghost use Rattle.walk.specs.Rule.{always, any_value, exactly};

@@ -12,8 +12,8 @@ use Rattle.std.proofs.lemmas.Bool.{true≢false}
 use Rattle.std.proofs.lemmas.Cmp.{nat_cmp_total, nat_list_cmp_total, on_total, then_total, tied_itself}
 use Rattle.std.proofs.lemmas.List.Elements.{Contains-push, Contains-push_cases}
 use Rattle.std.proofs.lemmas.Map.Lookups.{CmpEqualImpliesEq, exact_unsigned, exact_bytes}
-use Rattle.language.specs.Position.{index_of, line_of, column_of}
-use Rattle.language.specs.declared.position.SourcePosition.{SourcePosition}
+use Rattle.language_types.specs.Position.{index_of, line_of, column_of}
+use Rattle.language_types.specs.declared.position.SourcePosition.{SourcePosition}
 use Rattle.walk.specs.ErrorValue.{position_cmp}
 use Rattle.fragment_reach.specs.ReachedFragments.{IsNameMarked}
 use Rattle.fragment_reach.specs.declared.reached.ReachedFragments.{ReachedFragments}

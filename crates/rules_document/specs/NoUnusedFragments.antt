@@ -3,7 +3,7 @@ use Rattle.std.specs.Prelude.{◌≡◌, ◌⊎◌, ◌↔◌, ℕ, List, [], �
 use Rattle.std.specs.List.{Contains}
 use Rattle.language.specs.declared.tree.Definition.{Definition}
 use Rattle.language.specs.declared.tree.Definition.TheVariants as definition
-use Rattle.language.specs.Position.{Placed}
+use Rattle.language_types.specs.Position.{Placed}
 use Rattle.language.specs.declared.tree.Fragment.{Fragment}
 use Rattle.walk.specs.ErrorValue.{ErrorValue}
 use Rattle.fragment_reach.specs.Reach.{IsReached}

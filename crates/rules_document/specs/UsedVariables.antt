@@ -1,7 +1,7 @@
 -- Which variables operations use and define (sections 5.8.3 and 5.8.4).
 use Rattle.std.specs.Prelude.{ℕ, List, Option, map}
 use Rattle.std.specs.List.{Contains}
-use Rattle.language.specs.Position.{Placed}
+use Rattle.language_types.specs.Position.{Placed}
 use Rattle.language.specs.declared.tree.Definition.{Definition}
 use Rattle.language.specs.declared.tree.Operation.{Operation}
 use Rattle.fragment_reach.specs.Reach.{Reach}

@@ -7,8 +7,8 @@ use Rattle.std.specs.List.{Contains, flat_map}
 use Rattle.std.specs.Option.{option_map_or}
 use Rattle.std.proofs.lemmas.Slice.Eq.{bytes_eq-Decides}
 use Rattle.std.specs.Str.{bytes_eq}
-use Rattle.language.specs.Names.{is_among}
-use Rattle.language.specs.Position.{Placed}
+use Rattle.language_types.specs.Names.{is_among}
+use Rattle.language_types.specs.Position.{Placed}
 use Rattle.language.specs.declared.tree.Definition.{Definition}
 use Rattle.language.specs.declared.tree.Definition.TheVariants as definition
 use Rattle.language.specs.declared.tree.Operation.{Operation}

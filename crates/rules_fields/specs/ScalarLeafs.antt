@@ -1,6 +1,6 @@
 -- Fields with a selection set that may have none, and fields without one that need one (section 5.3.3).
 use Rattle.std.specs.Prelude.{◌≡◌, not, ℕ, List, [], ◌∷◌, ◌++◌, Bool, true, false, Option, Some, is_some, codes}
-use Rattle.language.specs.Types.{TypeShape, printed}
+use Rattle.language_types.specs.Types.{TypeShape, printed}
 use Rattle.language.specs.declared.tree.Field.{Field}
 use Rattle.meta.specs.declared.kinds.MetaTypeOf.{MetaTypeOf}
 use Rattle.meta.specs.Kinds.{is_leaf_meta}

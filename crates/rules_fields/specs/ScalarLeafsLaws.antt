@@ -1,7 +1,7 @@
 -- When the rule finds nothing at a node. In specs/, since ghost members of an impl cite nothing else.
 use Rattle.std.proofs.Common.{◌≡◌, ◌↔◌, ℕ, List, [], refl}
 use Rattle.std.specs.Prelude.{Bool, true, false, not, Option, Some, None, is_some}
-use Rattle.language.specs.Types.{TypeShape, printed}
+use Rattle.language_types.specs.Types.{TypeShape, printed}
 use Rattle.language.specs.declared.tree.Field.{Field}
 use Rattle.meta.specs.declared.kinds.MetaTypeOf.{MetaTypeOf}
 use Rattle.meta.specs.Kinds.{is_leaf_meta}

@@ -2,7 +2,7 @@
 //! 5.3.3).
 
 ghost use Rattle.std.specs.Prelude.{◌≡◌, IfOk, OnOk, OnErr, is_some, string_bytes};
-ghost use Rattle.language.specs.Types.{borrowed_shape, printed};
+ghost use Rattle.language_types.specs.Types.{borrowed_shape, printed};
 ghost use Rattle.walk.specs.ContextState.{typing, with_errors};
 ghost use Rattle.walk.specs.Entering.{everywhere, finding_step, found};
 ghost use Rattle.walk.specs.Rule.{always, any_value, exactly};

@@ -7,19 +7,20 @@ use Rattle.std.proofs.lemmas.Grind.{flat_map-append}
 use Rattle.std.proofs.lemmas.List.Elements.{Contains-append_cases, Contains-push_cases}
 use Rattle.std.proofs.lemmas.List.Folds.{list_all-map}
 use Rattle.std.proofs.lemmas.Simd.{map-map}
-use Rattle.language.specs.Each.{Each, EachIfThere}
-use Rattle.language.specs.ValuesEqual.{are_distinct, has_unique_keys, unique_step}
-use Rattle.language.specs.declared.position.Span.{Span}
+use Rattle.language_values.specs.Each.{Each, EachIfThere}
+use Rattle.language_values.specs.ValuesEqual.{are_distinct, has_unique_keys, unique_step}
+use Rattle.language_types.specs.declared.position.Span.{Span}
 use Rattle.language.specs.declared.tree.Arguments.{Arguments}
 use Rattle.language.specs.declared.tree.Definition.{Definition}
 use Rattle.language.specs.declared.tree.Definition.TheVariants as definition
 use Rattle.language.specs.declared.tree.Directive.{Directive}
 use Rattle.language.specs.declared.tree.Selection.{Selection}
 use Rattle.language.specs.declared.tree.VariableDefinitions.{VariableDefinitions}
-use Rattle.language.specs.declared.value.InputValue.{InputValue, fold-roll-InputValue}
-use Rattle.language.specs.declared.value.InputValue.TheVariants as v
-use Rattle.language.specs.declared.value.InputValue.TheOpen as opened
-use Rattle.language.proofs.Induction.{selection_induction, value_induction}
+use Rattle.language_values.specs.declared.value.InputValue.{InputValue, fold-roll-InputValue}
+use Rattle.language_values.specs.declared.value.InputValue.TheVariants as v
+use Rattle.language_values.specs.declared.value.InputValue.TheOpen as opened
+use Rattle.language_values.proofs.ValueInduction.{value_induction}
+use Rattle.language.proofs.Induction.{selection_induction}
 use Rattle.meta.specs.declared.arguments.Argument.{Argument}
 use Rattle.schema.specs.Catalog.{Catalog}
 use Rattle.events.specs.Node.{Node, Placed, ArgumentEntry, ObjectEntry}

@@ -1,7 +1,7 @@
 -- Names of types that a schema does not list (section 5.5.1.2).
 use Rattle.std.specs.Prelude.{◌≡◌, true, ℕ, List, [], ◌∷◌, ◌++◌, Option, Some, None, is_some, if◌then◌else◌, codes}
-use Rattle.language.specs.Types.{shape}
-use Rattle.language.specs.declared.position.SourcePosition.{SourcePosition}
+use Rattle.language_types.specs.Types.{shape}
+use Rattle.language_types.specs.declared.position.SourcePosition.{SourcePosition}
 use Rattle.schema.specs.Catalog.{Catalog, type_in}
 use Rattle.walk.specs.ContextState.{DocumentScope}
 use Rattle.walk.specs.ErrorValue.{ErrorValue}

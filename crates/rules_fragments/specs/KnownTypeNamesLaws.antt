@@ -1,8 +1,8 @@
 -- When the rule finds nothing at a node. In specs/, since ghost members of an impl cite nothing else.
 use Rattle.std.proofs.Common.{◌≡◌, ◌↔◌, List, [], refl}
 use Rattle.std.specs.Prelude.{ℕ, Option, Some, None, is_some}
-use Rattle.language.specs.Types.{shape}
-use Rattle.language.specs.declared.position.SourcePosition.{SourcePosition}
+use Rattle.language_types.specs.Types.{shape}
+use Rattle.language_types.specs.declared.position.SourcePosition.{SourcePosition}
 use Rattle.schema.specs.Catalog.{Catalog, type_in}
 use Rattle.walk.specs.ContextState.{DocumentScope}
 use Rattle.events.specs.Node.{Node, Name, fragment_definition, inline_fragment, variable_definition}

@@ -1,7 +1,7 @@
 -- When the rule finds nothing at a node. In specs/, since ghost members of an impl cite nothing else.
 use Rattle.std.proofs.Common.{◌≡◌, ◌↔◌, List, [], refl}
 use Rattle.std.specs.Prelude.{ℕ, Option, Some, None}
-use Rattle.language.specs.declared.position.SourcePosition.{SourcePosition}
+use Rattle.language_types.specs.declared.position.SourcePosition.{SourcePosition}
 use Rattle.meta.specs.declared.kinds.MetaTypeOf.{MetaTypeOf}
 use Rattle.schema.specs.Catalog.{Catalog}
 use Rattle.walk.specs.ContextState.{DocumentScope}

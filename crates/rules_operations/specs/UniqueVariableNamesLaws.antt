@@ -1,7 +1,7 @@
 -- When the rule finds nothing at a node. In specs/, since ghost members of an impl cite nothing else.
 use Rattle.std.proofs.Common.{◌≡◌, ◌↔◌, ℕ, List, [], ◌∷◌, map, refl, ap, sym, ◌∙◌}
 use Rattle.std.specs.Prelude.{Option, Some, None, true}
-use Rattle.language.specs.ValuesEqual.{are_distinct}
+use Rattle.language_values.specs.ValuesEqual.{are_distinct}
 use Rattle.language.specs.declared.tree.VariableDefinitions.{VariableDefinitions}
 use Rattle.events.specs.Node.{Node, Name, Placed, operation_definition}
 use Rattle.walk.specs.ContextState.{DocumentScope}

@@ -1,7 +1,7 @@
 -- Variables of types that no input has (section 5.8.2).
 use Rattle.std.specs.Prelude.{◌≡◌, ℕ, List, [], ◌∷◌, ◌++◌, true, Option, Some, None, if◌then◌else◌, codes}
 use Rattle.std.specs.Option.{option_map_or}
-use Rattle.language.specs.Types.{TypeShape, printed, shape}
+use Rattle.language_types.specs.Types.{TypeShape, printed, shape}
 use Rattle.meta.specs.Kinds.{is_input_meta}
 use Rattle.meta.specs.declared.kinds.MetaTypeOf.{MetaTypeOf}
 use Rattle.schema.specs.Catalog.{Catalog, type_in}

@@ -1,7 +1,7 @@
 //! The type of a variable is an input type (GraphQL, October 2021, section 5.8.2).
 
 ghost use Rattle.std.specs.Prelude.{◌≡◌, IfOk, OnOk, OnErr, option_copied, string_bytes};
-ghost use Rattle.language.specs.Types.{shape};
+ghost use Rattle.language_types.specs.Types.{shape};
 ghost use Rattle.schema.specs.Catalog.{type_in};
 ghost use Rattle.walk.specs.ContextState.{with_errors};
 ghost use Rattle.walk.specs.Entering.{everywhere, finding_step, found};

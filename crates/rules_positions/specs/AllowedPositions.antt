@@ -1,7 +1,7 @@
 -- Where the variables of a document are used, by their types (section 5.8.5).
 use Rattle.std.specs.Prelude.{◌≡◌, ℕ, List, Option, Some}
 use Rattle.std.specs.List.{Contains}
-use Rattle.language.specs.Types.{TypeShape}
+use Rattle.language_types.specs.Types.{TypeShape}
 use Rattle.language.specs.declared.tree.Definition.{Definition}
 use Rattle.schema.specs.Subtype.{IsSubtype}
 use Rattle.events.specs.Node.{Placed, VariableEntry, variable_value}

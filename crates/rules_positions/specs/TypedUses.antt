@@ -1,8 +1,8 @@
 -- The variables in the values of a definition, where a type is expected (section 5.8.5).
 use Rattle.std.specs.Prelude.{ℕ, List, [], ◌∷◌, ◌++◌, Option, Some, None, map}
 use Rattle.std.specs.List.{flat_map}
-use Rattle.language.specs.Types.{TypeShape, borrowed_shape}
-use Rattle.language.specs.declared.position.SourcePosition.{SourcePosition}
+use Rattle.language_types.specs.Types.{TypeShape, borrowed_shape}
+use Rattle.language_types.specs.declared.position.SourcePosition.{SourcePosition}
 use Rattle.language.specs.declared.tree.Definition.{Definition}
 use Rattle.schema.specs.Catalog.{Catalog}
 use Rattle.walk.specs.ContextState.{DocumentScope}

@@ -3,8 +3,8 @@ use Rattle.std.proofs.Common.{◌≡◌, List, [], ◌∷◌, ◌++◌, Option, 
 use Rattle.std.proofs.Common.{append_assoc, map}
 use Rattle.std.specs.List.{flat_map}
 use Rattle.std.proofs.lemmas.List.{append-nil}
-use Rattle.language.specs.Each.{Each}
-use Rattle.language.specs.Types.{TypeShape}
+use Rattle.language_values.specs.Each.{Each}
+use Rattle.language_types.specs.Types.{TypeShape}
 use Rattle.language.specs.declared.tree.Definition.{Definition}
 use Rattle.language.specs.declared.tree.Definition.TheVariants as definition
 use Rattle.schema.specs.Catalog.{Catalog}

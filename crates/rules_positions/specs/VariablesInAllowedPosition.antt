@@ -1,6 +1,6 @@
 -- Variables that are used where their type is not allowed.
 use Rattle.std.specs.Prelude.{◌≡◌, ◌⊎◌, ℕ, List, [], ◌∷◌, ◌++◌, is_some, map, codes, if◌then◌else◌}
-use Rattle.language.specs.Types.{TypeShape, shape, non_null_of, printed}
+use Rattle.language_types.specs.Types.{TypeShape, shape, non_null_of, printed}
 use Rattle.language.specs.declared.tree.Definition.{Definition}
 use Rattle.language.specs.declared.tree.VariableDefinition.{VariableDefinition}
 use Rattle.meta.specs.declared.kinds.MetaTypeOf.{MetaTypeOf}

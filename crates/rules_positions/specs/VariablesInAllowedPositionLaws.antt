@@ -2,7 +2,7 @@
 use Rattle.std.proofs.Common.{◌≡◌, ℕ, suc, zero, List, [], ◌∷◌, Option, None, Some, inl, inr, slice_get, refl, ap, sym}
 use Rattle.std.proofs.Common.{◌∙◌, subst}
 use Rattle.language.specs.declared.tree.Definition.{Definition}
-use Rattle.language.specs.Types.{TypeShape}
+use Rattle.language_types.specs.Types.{TypeShape}
 use Rattle.fragment_graph.proofs.Lists.{contains_at, contains_get, none_some, same_some}
 use Rattle.fragment_graph.proofs.NamePaths.{flat_get}
 use Rattle.fragment_reach.proofs.Reaching.{contains_flat}

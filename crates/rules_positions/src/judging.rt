@@ -1,7 +1,7 @@
 //! Whether a variable is allowed where it is used.
 
 ghost use Rattle.std.specs.Prelude.{◌≡◌, ◌↔◌, IfOk, IsTrue, string_bytes};
-ghost use Rattle.language.specs.Types.{borrowed_shape, printed, shape};
+ghost use Rattle.language_types.specs.Types.{borrowed_shape, printed, shape};
 ghost use Rattle.schema.specs.Subtype.{IsSubtype};
 ghost use Rattle.rules_positions.specs.TypedUses.{use_value, UseValue};
 ghost use Rattle.rules_positions.specs.VariablesInAllowedPosition.{position_message, type_in_use, Judged};

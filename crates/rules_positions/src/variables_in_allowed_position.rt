@@ -1,7 +1,7 @@
 //! Each variable is used only where its type is allowed (GraphQL, October 2021, section 5.8.5).
 
 ghost use Rattle.std.specs.Prelude.{◌≡◌, [], IfOk, OnErr, OnOk, option_map};
-ghost use Rattle.language.specs.Types.{borrowed_shape};
+ghost use Rattle.language_types.specs.Types.{borrowed_shape};
 ghost use Rattle.walk.specs.Rule.{always, Appended};
 ghost use Rattle.walk.specs.Step.{KeepsPlace};
 ghost use Rattle.operation_scopes.specs.Index.{IsIndexOf};

@@ -2,11 +2,11 @@
 use Rattle.std.proofs.Common.{◌≡◌, ℕ, List, [], ◌∷◌, ◌++◌, map, reverse, sym, ap, ◌∙◌, refl, subst}
 use Rattle.std.proofs.lemmas.List.{append-nil, append_assoc, map-append, reverse-append}
 use denote.Ref.{Bor}
-use Rattle.language.specs.References.{list_copied}
-use Rattle.language.specs.Position.{Placed}
+use Rattle.language_types.specs.References.{list_copied}
+use Rattle.language_types.specs.Position.{Placed}
 use Rattle.language.specs.declared.tree.Field.{Field}
 use Rattle.language.specs.declared.tree.Selection.{Selection}
-use Rattle.language.specs.declared.value.InputValue.{InputValue}
+use Rattle.language_values.specs.declared.value.InputValue.{InputValue}
 use Rattle.bit_matrix.specs.declared.set.BitSet.{BitSet}
 use Rattle.rules_specified.specs.Collected.{at_end, at_field, at_nothing, at_set, field, inside, nothing}
 use Rattle.rules_specified.specs.Collecting.{CollectsAll, CollectsAt, Leads, Marks, part_at}

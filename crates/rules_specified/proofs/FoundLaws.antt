@@ -2,8 +2,8 @@
 use Rattle.std.proofs.Common.{◌≡◌, ◌<◌, ◌≤◌, ◌+◌, ℕ, List, [], ◌∷◌, ◌++◌, length, drop, get_or, map, Some, None, slice_get, Bool, true, false, cond, sym, ap, ◌∙◌, refl, drop_of_length-le}
 use Rattle.std.specs.List.{filter}
 use Rattle.std.proofs.lemmas.List.{append-nil, append_assoc, drop_more}
-use Rattle.language.specs.Position.{Placed}
-use Rattle.language.specs.declared.position.SourcePosition.{SourcePosition}
+use Rattle.language_types.specs.Position.{Placed}
+use Rattle.language_types.specs.declared.position.SourcePosition.{SourcePosition}
 use Rattle.language.specs.declared.tree.Field.{Field}
 use Rattle.rules_specified.specs.Collecting.{placed}
 use Rattle.rules_specified.specs.SingleRootField.{has_other_name, others, places, response_name}

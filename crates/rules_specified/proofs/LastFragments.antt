@@ -2,7 +2,7 @@
 use Rattle.std.proofs.Common.{◌≡◌, ◌≤◌, ℕ, suc, zero, List, [], ◌∷◌, Bool, true, false, Option, Some, None, if◌then◌else◌, slice_get, option_and_then, sym, ap, ◌∙◌, refl, subst, arith}
 use Rattle.std.specs.Option.{option_or}
 use Rattle.std.specs.Str.{bytes_eq}
-use Rattle.language.specs.Position.{Placed}
+use Rattle.language_types.specs.Position.{Placed}
 use Rattle.language.specs.declared.tree.Definition.{Definition}
 use Rattle.language.specs.declared.tree.Definition.TheVariants as definition
 use Rattle.language.specs.declared.tree.Fragment.{Fragment}
@@ -12,7 +12,7 @@ use Rattle.rules_specified.specs.Collected.{fragment_if_named, last_fragment}
 use Rattle.rules_specified.specs.Collecting.{fragment_in}
 use Rattle.std.specs.List.{Contains}
 use Rattle.std.proofs.lemmas.Option.{slice_get_within, get_or_from_slice_get}
-use Rattle.language.proofs.Members.{bytes_eq-refl, bytes_eq-same}
+use Rattle.language_values.proofs.Members.{bytes_eq-refl, bytes_eq-same}
 
 module _ {S : Type 0} (name : List ℕ) where
   abbrev Only : Bool → Placed (Fragment S) → Option (Placed (Fragment S))

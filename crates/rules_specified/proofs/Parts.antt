@@ -3,9 +3,9 @@ use Rattle.std.proofs.Common.{◌≡◌, ◌≢◌, ℕ, List, [], ◌∷◌, Bo
 use Rattle.std.specs.Option.{option_map_or}
 use Rattle.std.specs.Str.{bytes_eq}
 use Rattle.std.proofs.lemmas.Bool.{cases_eq}
-use Rattle.language.proofs.Members.{bytes_eq-refl, bytes_eq-same}
-use Rattle.language.specs.Names.{is_among}
-use Rattle.language.specs.Position.{Placed}
+use Rattle.language_values.proofs.Members.{bytes_eq-refl, bytes_eq-same}
+use Rattle.language_types.specs.Names.{is_among}
+use Rattle.language_types.specs.Position.{Placed}
 use Rattle.language.specs.declared.tree.Definition.{Definition}
 use Rattle.language.specs.declared.tree.Field.{Field}
 use Rattle.language.specs.declared.tree.Fragment.{Fragment}
@@ -14,7 +14,7 @@ use Rattle.language.specs.declared.tree.InlineFragment.{InlineFragment}
 use Rattle.language.specs.declared.tree.Selection.{Selection, out-Selection, out-roll-Selection}
 use Rattle.language.specs.declared.tree.Selection.TheOpen as opened
 use Rattle.language.specs.declared.tree.Selection.TheVariants as selection
-use Rattle.language.specs.declared.value.InputValue.{InputValue}
+use Rattle.language_values.specs.declared.value.InputValue.{InputValue}
 use Rattle.bit_matrix.specs.declared.set.BitSet.{BitSet}
 use Rattle.bit_matrix.specs.Set.{has}
 use Rattle.fragment_graph.specs.declared.numbers.Numbers.{Numbers}

@@ -6,7 +6,7 @@ use Rattle.std.specs.Option.{option_map_or, option_or}
 use Rattle.std.specs.Str.{bytes_eq}
 use Rattle.std.specs.declared.vec.Vec.{Vec}
 use Rattle.std.specs.declared.alloc.Global.{Global}
-use Rattle.language.specs.Names.{is_among}
+use Rattle.language_types.specs.Names.{is_among}
 use Rattle.language.specs.Pairs.{first_of_name}
 use Rattle.language.specs.declared.tree.Definition.{Definition}
 use Rattle.language.specs.declared.tree.Definition.TheVariants as definition
@@ -16,11 +16,11 @@ use Rattle.language.specs.declared.tree.Fragment.{Fragment}
 use Rattle.language.specs.declared.tree.InlineFragment.{InlineFragment}
 use Rattle.language.specs.declared.tree.Selection.{Selection, out-Selection}
 use Rattle.language.specs.declared.tree.Selection.TheOpen as opened
-use Rattle.language.specs.declared.value.InputValue.{InputValue, out-InputValue}
-use Rattle.language.specs.declared.value.InputValue.TheOpen as opened_value
+use Rattle.language_values.specs.declared.value.InputValue.{InputValue, out-InputValue}
+use Rattle.language_values.specs.declared.value.InputValue.TheOpen as opened_value
 use Rattle.schema.specs.Catalog.{Catalog}
 use Rattle.schema.specs.Subtype.{is_name_below}
-use Rattle.language.specs.Position.{Placed}
+use Rattle.language_types.specs.Position.{Placed}
 
 -- the directives of a node, where it has any
 abbrev pub Directives : Type 0 → Type 0

@@ -1,18 +1,18 @@
 -- What is known while fields are collected.
 use Rattle.std.specs.Prelude.{◌≡◌, ◌++◌, ℕ, List, [], ◌∷◌, Option, Some, None, map}
-use Rattle.language.specs.Names.{is_among}
+use Rattle.language_types.specs.Names.{is_among}
 use Rattle.language.specs.declared.tree.Definition.{Definition}
 use Rattle.language.specs.declared.tree.Definition.TheVariants as definition
 use Rattle.language.specs.declared.tree.Field.{Field}
 use Rattle.language.specs.declared.tree.Fragment.{Fragment}
 use Rattle.language.specs.declared.tree.Selection.{Selection}
-use Rattle.language.specs.declared.value.InputValue.{InputValue}
+use Rattle.language_values.specs.declared.value.InputValue.{InputValue}
 use Rattle.bit_matrix.specs.declared.set.BitSet.{BitSet}
 use Rattle.bit_matrix.specs.Set.{has}
 use Rattle.fragment_graph.specs.declared.numbers.Numbers.{Numbers}
 use Rattle.fragment_graph.specs.Numbers.{number_of, NumbersOf}
 use Rattle.merge_graph.specs.Definitions.{last_place, AreLast}
-use Rattle.language.specs.Position.{Placed}
+use Rattle.language_types.specs.Position.{Placed}
 use Rattle.rules_specified.specs.Collected.{Collects, Part, field, inside, nothing, part}
 use Rattle.rules_specified.specs.declared.collected.Found.{Found}
 use Rattle.rules_specified.specs.declared.collected.Found.TheVariants as found

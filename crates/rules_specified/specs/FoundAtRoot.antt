@@ -1,6 +1,6 @@
 -- What is to be said of the fields at a root.
 use Rattle.std.specs.Prelude.{◌≡◌, List, [], ◌∷◌, Bool, true, false}
-use Rattle.language.specs.Position.{Placed}
+use Rattle.language_types.specs.Position.{Placed}
 use Rattle.language.specs.declared.tree.Field.{Field}
 use Rattle.rules_specified.specs.SingleRootField.{introspections, others, places}
 use Rattle.rules_specified.specs.declared.single_root_field.FoundAtRoot.{FoundAtRoot}

@@ -4,14 +4,14 @@ use Rattle.std.specs.Prelude.{option_and_then, codes}
 use Rattle.std.specs.List.{All, filter, starts_with}
 use Rattle.std.specs.Option.{option_map_or}
 use Rattle.std.specs.Str.{bytes_eq}
-use Rattle.language.specs.declared.position.SourcePosition.{SourcePosition}
+use Rattle.language_types.specs.declared.position.SourcePosition.{SourcePosition}
 use Rattle.language.specs.declared.tree.Definition.{Definition}
 use Rattle.language.specs.declared.tree.Definition.TheVariants as definition
 use Rattle.language.specs.declared.tree.Field.{Field}
 use Rattle.language.specs.declared.tree.Operation.{Operation}
 use Rattle.language.specs.declared.tree.OperationType.{OperationType}
 use Rattle.language.specs.declared.tree.OperationType.TheVariants as kind
-use Rattle.language.specs.declared.value.InputValue.{InputValue}
+use Rattle.language_values.specs.declared.value.InputValue.{InputValue}
 use Rattle.meta.specs.Kinds.{name_of_meta}
 use Rattle.schema.specs.Catalog.{Catalog, root_type}
 use Rattle.events.specs.Node.{Name, Placed}

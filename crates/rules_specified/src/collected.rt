@@ -4,10 +4,10 @@
 ghost use Rattle.std.specs.Prelude.{◌≡◌, ◌++◌, ◌∷◌, [], ℕ, List, Some, IfOk, OnOk, option_copied, option_and_then};
 ghost use Rattle.std.specs.Prelude.{reverse, slice_get};
 ghost use Rattle.std.specs.List.{list_any};
-ghost use Rattle.language.specs.References.{list_copied};
-ghost use Rattle.language.specs.ValuesPrinted.{printed_value};
+ghost use Rattle.language_types.specs.References.{list_copied};
+ghost use Rattle.language_values.specs.ValuesPrinted.{printed_value};
 ghost use Rattle.language.specs.declared.tree.Field.{Field};
-ghost use Rattle.language.specs.Position.{Placed};
+ghost use Rattle.language_types.specs.Position.{Placed};
 ghost use Rattle.fragment_graph.specs.Numbers.{number_of, NumberedDefinitions};
 ghost use Rattle.rules_specified.specs.Collected.{are_leaving_out, given_if, is_given, is_not_included, last_fragment};
 ghost use Rattle.rules_specified.specs.Collected.{leaves_out, of_inline, of_spread};

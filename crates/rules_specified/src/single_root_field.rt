@@ -3,9 +3,9 @@
 ghost use Rattle.std.specs.Prelude.{◌≡◌, ◌++◌, ◌∷◌, [], ℕ, List, Some, IfOk, OnOk, OnErr, codes, option_map};
 ghost use Rattle.std.specs.Prelude.{string_bytes};
 ghost use Rattle.std.specs.List.{filter, list_any};
-ghost use Rattle.language.specs.References.{list_copied};
-ghost use Rattle.language.specs.ValuesPrinted.{printed_value};
-ghost use Rattle.language.specs.Position.{Placed};
+ghost use Rattle.language_types.specs.References.{list_copied};
+ghost use Rattle.language_values.specs.ValuesPrinted.{printed_value};
+ghost use Rattle.language_types.specs.Position.{Placed};
 ghost use Rattle.language.specs.declared.tree.Field.{Field};
 ghost use Rattle.walk.specs.ContextState.{with_errors};
 ghost use Rattle.walk.specs.ErrorValue.{ErrorValue};

@@ -1,7 +1,7 @@
 -- The field `__typename`, where metadata does not list it, with a selection set (sections 4.1 and 5.3.3).
 use Rattle.std.specs.Prelude.{◌≡◌, ℕ, List, [], ◌∷◌, Bool, true, false, ◌&&◌, Option, Some, None, is_some, codes}
 use Rattle.std.specs.Prelude.{if◌then◌else◌}
-use Rattle.language.specs.Types.{TypeShape, non_null_named, printed}
+use Rattle.language_types.specs.Types.{TypeShape, non_null_named, printed}
 use Rattle.language.specs.declared.tree.Field.{Field}
 use Rattle.meta.specs.declared.kinds.MetaTypeOf.{MetaTypeOf}
 use Rattle.meta.specs.Kinds.{is_composite_meta}

@@ -1,7 +1,7 @@
 -- When the rule finds nothing at a node. In specs/, since ghost members of an impl cite nothing else.
 use Rattle.std.proofs.Common.{◌≡◌, ◌↔◌, [], refl}
 use Rattle.std.specs.Prelude.{Bool, true, false, Option, is_some, if◌then◌else◌}
-use Rattle.language.specs.Types.{TypeShape}
+use Rattle.language_types.specs.Types.{TypeShape}
 use Rattle.language.specs.declared.tree.Field.{Field}
 use Rattle.meta.specs.declared.kinds.MetaTypeOf.{MetaTypeOf}
 use Rattle.walk.specs.ContextState.{DocumentScope}

@@ -3,7 +3,7 @@
 //! rule says it elsewhere.
 
 ghost use Rattle.std.specs.Prelude.{◌≡◌, OnOk, OnErr, is_some, option_copied, option_map};
-ghost use Rattle.language.specs.Types.{borrowed_shape};
+ghost use Rattle.language_types.specs.Types.{borrowed_shape};
 ghost use Rattle.walk.specs.ContextState.{typing, with_errors};
 ghost use Rattle.walk.specs.Entering.{everywhere, finding_step, found};
 ghost use Rattle.walk.specs.Rule.{always, any_value, exactly};

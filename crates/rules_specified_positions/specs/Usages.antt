@@ -2,10 +2,10 @@
 -- 5.8.5).
 use Rattle.std.specs.Prelude.{◌≡◌, ◌⊎◌, List, [], ◌∷◌, Bool, true, false, not, ◌&&◌, ◌||◌, if◌then◌else◌}
 use Rattle.std.specs.Option.{option_map_or}
-use Rattle.language.specs.Types.{TypeShape, inner_of, is_never_null, printed, shape}
+use Rattle.language_types.specs.Types.{TypeShape, inner_of, is_never_null, printed, shape}
 use Rattle.language.specs.declared.tree.VariableDefinition.{VariableDefinition}
-use Rattle.language.specs.declared.value.InputValue.{InputValue, out-InputValue}
-use Rattle.language.specs.declared.value.InputValue.TheOpen as opened
+use Rattle.language_values.specs.declared.value.InputValue.{InputValue, out-InputValue}
+use Rattle.language_values.specs.declared.value.InputValue.TheOpen as opened
 use Rattle.meta.specs.declared.kinds.MetaTypeOf.{MetaTypeOf}
 use Rattle.schema.specs.Subtype.{IsSubtype}
 use Rattle.events.specs.Node.{VariableEntry}

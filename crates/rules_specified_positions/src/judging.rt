@@ -1,7 +1,7 @@
 //! Whether a variable may stand where it is used, by its own default value and that of the place.
 
 ghost use Rattle.std.specs.Prelude.{◌≡◌, ◌||◌, ◌↔◌, IsTrue};
-ghost use Rattle.language.specs.Types.{borrowed_shape, is_never_null};
+ghost use Rattle.language_types.specs.Types.{borrowed_shape, is_never_null};
 ghost use Rattle.rules_specified_uses.specs.ValueUses.{use_value, UseValue};
 ghost use Rattle.rules_specified_positions.specs.Usages.{has_usable_default, is_null, type_to_fit, Fits, IsAllowed};
 ghost use Rattle.rules_specified_positions.specs.Usages.{Judged};

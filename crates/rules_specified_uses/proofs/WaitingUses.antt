@@ -6,12 +6,12 @@ use Rattle.std.proofs.lemmas.List.{reverse-append}
 use Rattle.std.proofs.lemmas.List.Concat.{flat_map-cons}
 use Rattle.std.proofs.lemmas.List.Folds.{flat_map-map}
 use Rattle.std.specs.declared.alloc.Global.{Global}
-use Rattle.language.specs.Position.{Placed}
-use Rattle.language.specs.Values.{Entry}
-use Rattle.language.specs.declared.position.Span.{Span}
-use Rattle.language.specs.declared.value.InputValue.{InputValue, fold-roll-InputValue}
-use Rattle.language.specs.declared.value.InputValue.TheVariants as v
-use Rattle.language.specs.declared.value.InputValue.TheOpen.{InputValue-F}
+use Rattle.language_types.specs.Position.{Placed}
+use Rattle.language_values.specs.Values.{Entry}
+use Rattle.language_types.specs.declared.position.Span.{Span}
+use Rattle.language_values.specs.declared.value.InputValue.{InputValue, fold-roll-InputValue}
+use Rattle.language_values.specs.declared.value.InputValue.TheVariants as v
+use Rattle.language_values.specs.declared.value.InputValue.TheOpen.{InputValue-F}
 use Rattle.schema.specs.Catalog.{Catalog}
 use Rattle.rules_specified_uses.specs.InputPlaces.{PlaceValue, field_place, item_place, place_value}
 use Rattle.rules_specified_uses.specs.ValueUses.{UseValue, UsesAt, uses_of, uses_step, value_uses, with_use, with_uses}

@@ -2,7 +2,7 @@
 use Rattle.std.specs.Prelude.{ℕ, List, Option, Bool, false, is_some, find, option_and_then, string_bytes}
 use Rattle.std.specs.Option.{option_map}
 use Rattle.std.specs.Str.{bytes_eq}
-use Rattle.language.specs.Types.{TypeShape, borrowed_shape, list_inner_of, shape}
+use Rattle.language_types.specs.Types.{TypeShape, borrowed_shape, list_inner_of, shape}
 use Rattle.meta.specs.declared.arguments.Argument.{Argument}
 use Rattle.meta.specs.Kinds.{input_field_named}
 use Rattle.schema.specs.Catalog.{Catalog, type_in}

@@ -3,12 +3,12 @@ use Rattle.std.specs.Prelude.{ℕ, List, [], ◌∷◌, ◌++◌, Option, Some, 
 use Rattle.std.specs.List.{flat_map}
 use Rattle.std.specs.declared.alloc.Global.{Global}
 use Rattle.std.specs.declared.vec.Vec.{Vec}
-use Rattle.language.specs.Position.{Placed}
-use Rattle.language.specs.Types.{borrowed_shape}
-use Rattle.language.specs.declared.position.SourcePosition.{SourcePosition}
-use Rattle.language.specs.declared.position.Span.{Span}
-use Rattle.language.specs.declared.value.InputValue.{InputValue, fold-InputValue}
-use Rattle.language.specs.declared.value.InputValue.TheOpen as opened
+use Rattle.language_types.specs.Position.{Placed}
+use Rattle.language_types.specs.Types.{borrowed_shape}
+use Rattle.language_types.specs.declared.position.SourcePosition.{SourcePosition}
+use Rattle.language_types.specs.declared.position.Span.{Span}
+use Rattle.language_values.specs.declared.value.InputValue.{InputValue, fold-InputValue}
+use Rattle.language_values.specs.declared.value.InputValue.TheOpen as opened
 use Rattle.schema.specs.Catalog.{Catalog}
 use Rattle.rules_specified_uses.specs.InputPlaces.{PlaceValue, field_place, item_place}
 use Rattle.rules_specified_uses.specs.declared.value_uses.PlacedUse.{PlacedUse}

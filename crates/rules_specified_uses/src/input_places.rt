@@ -4,7 +4,7 @@ ghost use Rattle.std.specs.Prelude.{◌≡◌, option_copied, option_map};
 ghost use Rattle.rules_specified_uses.specs.InputPlaces.{argument_place, field_place, item_place, place_of};
 ghost use Rattle.rules_specified_uses.specs.InputPlaces.{place_value};
 
-use language::types::BorrowedType;
+use language_types::types::BorrowedType;
 use meta::Argument;
 use meta::named::first_named;
 use schema::model::SchemaTypeOf;

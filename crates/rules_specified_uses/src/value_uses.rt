@@ -6,10 +6,10 @@ ghost use Rattle.rules_specified_uses.specs.ValueUses.{use_at, use_value, use_va
 ghost use Rattle.rules_specified_uses.specs.Waiting.{left_uses, waiting_uses};
 
 use crate::input_places::{InputPlace, field_place, item_place};
-use language::error::OutOfMemory;
-use language::position::{SourcePosition, Spanning};
-use language::types::BorrowedType;
-use language::value::InputValue;
+use language_types::error::OutOfMemory;
+use language_types::position::{SourcePosition, Spanning};
+use language_types::types::BorrowedType;
+use language_values::value::InputValue;
 use schema::model::SchemaTypeOf;
 use std::alloc::Global;
 

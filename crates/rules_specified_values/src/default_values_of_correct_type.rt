@@ -1,7 +1,7 @@
 //! The default value of each variable conforms to the variable's type (GraphQL, October 2021, section 5.6.1), which may
 //! be non-null.
 
-ghost use Rattle.language.specs.ValuesPrinted.{printed_value};
+ghost use Rattle.language_values.specs.ValuesPrinted.{printed_value};
 ghost use Rattle.walk.specs.Entering.{everywhere, given, relating_step};
 ghost use Rattle.walk.specs.Rule.{always, any_value};
 ghost use Rattle.walk.proofs.Entering.{relating_keeps};
@@ -9,7 +9,7 @@ ghost use Rattle.rules_values.specs.GivenLaws.{given_silent};
 ghost use Rattle.rules_specified_values.specs.DefaultValuesOfCorrectType.{ConformingDefault, faulty_defaults};
 ghost use Rattle.rules_specified_values.specs.DefaultValuesOfCorrectTypeLaws.{defaults_conform};
 
-use language::error::OutOfMemory;
+use language_types::error::OutOfMemory;
 use meta::check::CheckedScalar;
 use rules_values::default_values_of_correct_type::report_faulty_default;
 use std::alloc::Global;

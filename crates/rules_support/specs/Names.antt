@@ -1,7 +1,7 @@
 -- Names, each with a place.
 use Rattle.std.specs.Prelude.{ℕ, List, Option, String, string_bytes}
 use Rattle.std.specs.declared.alloc.Global.{Global}
-use Rattle.language.specs.declared.position.SourcePosition.{SourcePosition}
+use Rattle.language_types.specs.declared.position.SourcePosition.{SourcePosition}
 use Rattle.events.specs.Node.{Name, Placed}
 
 -- a name with a place

@@ -1,7 +1,7 @@
 -- Names that stand in a list again.
 use Rattle.std.specs.Prelude.{ℕ, List, [], ◌∷◌, ◌++◌, Option, None, Some, if◌then◌else◌}
 use Rattle.std.specs.Str.{bytes_eq}
-use Rattle.language.specs.declared.position.SourcePosition.{SourcePosition}
+use Rattle.language_types.specs.declared.position.SourcePosition.{SourcePosition}
 use Rattle.walk.specs.ErrorValue.{ErrorValue}
 use Rattle.rules_support.specs.Names.{Named, Places}
 

@@ -6,8 +6,8 @@ use Rattle.std.specs.declared.alloc.Global.{Global}
 use Rattle.std.specs.Cmp.Lexicographic.{pointwise}
 use Rattle.std.specs.List.{list_all, list_any}
 use Rattle.std.specs.Str.{bytes_eq}
-use Rattle.language.specs.ValuesEqual.{are_distinct}
-use Rattle.language.specs.declared.position.SourcePosition.{SourcePosition}
+use Rattle.language_values.specs.ValuesEqual.{are_distinct}
+use Rattle.language_types.specs.declared.position.SourcePosition.{SourcePosition}
 use Rattle.events.specs.Node.{Node, Name, Placed}
 use Rattle.events.specs.Occurrence.{occurrences}
 use Rattle.walk.specs.ErrorValue.{ErrorValue}

@@ -4,8 +4,8 @@ ghost use Rattle.std.specs.Prelude.{◌≡◌, ◌≤◌, ◌*◌, IfOk, OnOk, m
 ghost use Rattle.rules_support.specs.FirstPlaces.{places_of, slots_for, HasNone};
 ghost use Rattle.rules_support.specs.Noting.{noted, nothing_noted};
 
-use language::error::OutOfMemory;
-use language::position::SourcePosition;
+use language_types::error::OutOfMemory;
+use language_types::position::SourcePosition;
 use name_tables::map::NameMap;
 use std::alloc::Global;
 

@@ -10,8 +10,8 @@ ghost use Rattle.rules_support.specs.FirstPlaces.{places_of};
 
 use crate::first_places::FirstPlaces;
 use crate::texts::between;
-use language::error::OutOfMemory;
-use language::position::{SourcePosition, Spanning};
+use language_types::error::OutOfMemory;
+use language_types::position::{SourcePosition, Spanning};
 use meta::check::CheckedScalar;
 use std::alloc::Global;
 use walk::ValidatorContext;

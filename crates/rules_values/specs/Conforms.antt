@@ -4,13 +4,13 @@ use Rattle.std.specs.Prelude.{is_some, nat_eq, option_and_then, string_bytes}
 use Rattle.std.specs.declared.alloc.Global.{Global}
 use Rattle.std.specs.List.{Contains}
 use Rattle.std.specs.Option.{option_map_or}
-use Rattle.language.specs.Position.{Placed}
-use Rattle.language.specs.Types.{TypeShape, shape}
-use Rattle.language.specs.Values.{Entry}
-use Rattle.language.specs.declared.types.TypeModifier.{TypeModifier}
-use Rattle.language.specs.declared.types.TypeModifier.TheVariants as m
-use Rattle.language.specs.declared.value.InputValue.{InputValue}
-use Rattle.language.specs.declared.value.InputValue.TheVariants as v
+use Rattle.language_types.specs.Position.{Placed}
+use Rattle.language_types.specs.Types.{TypeShape, shape}
+use Rattle.language_values.specs.Values.{Entry}
+use Rattle.language_types.specs.declared.types.TypeModifier.{TypeModifier}
+use Rattle.language_types.specs.declared.types.TypeModifier.TheVariants as m
+use Rattle.language_values.specs.declared.value.InputValue.{InputValue}
+use Rattle.language_values.specs.declared.value.InputValue.TheVariants as v
 use Rattle.meta.specs.Answers.{Answers, Accepts}
 use Rattle.meta.specs.Kinds.{check_of_meta, input_field_named, input_fields_of}
 use Rattle.meta.specs.declared.arguments.Argument.{Argument}

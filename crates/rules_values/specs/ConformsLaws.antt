@@ -8,17 +8,17 @@ use Rattle.std.specs.Option.{option_map_or}
 use Rattle.std.proofs.Math.Path.{transport}
 use Rattle.std.proofs.lemmas.List.{reverse-reverse}
 use Rattle.std.proofs.lemmas.List.Elements.{Contains-append_right}
-use Rattle.language.proofs.Induction.{value_induction}
-use Rattle.language.specs.Each.{Each}
-use Rattle.language.specs.Position.{Placed}
-use Rattle.language.specs.Types.{TypeShape, shape}
-use Rattle.language.specs.Values.{Entry}
-use Rattle.language.specs.declared.types.TypeModifier.{TypeModifier}
-use Rattle.language.specs.declared.types.TypeModifier.TheVariants as m
-use Rattle.language.specs.declared.value.InputValue.{InputValue, out-InputValue, out-roll-InputValue, roll-InputValue}
-use Rattle.language.specs.declared.value.InputValue.{roll-out-InputValue}
-use Rattle.language.specs.declared.value.InputValue.TheOpen as v
-use Rattle.language.specs.declared.value.InputValue.TheVariants as variant
+use Rattle.language_values.proofs.ValueInduction.{value_induction}
+use Rattle.language_values.specs.Each.{Each}
+use Rattle.language_types.specs.Position.{Placed}
+use Rattle.language_types.specs.Types.{TypeShape, shape}
+use Rattle.language_values.specs.Values.{Entry}
+use Rattle.language_types.specs.declared.types.TypeModifier.{TypeModifier}
+use Rattle.language_types.specs.declared.types.TypeModifier.TheVariants as m
+use Rattle.language_values.specs.declared.value.InputValue.{InputValue, out-InputValue, out-roll-InputValue, roll-InputValue}
+use Rattle.language_values.specs.declared.value.InputValue.{roll-out-InputValue}
+use Rattle.language_values.specs.declared.value.InputValue.TheOpen as v
+use Rattle.language_values.specs.declared.value.InputValue.TheVariants as variant
 use Rattle.meta.specs.Answers.{Answers, Accepts}
 use Rattle.meta.specs.Kinds.{check_of_meta, input_field_named, input_fields_of}
 use Rattle.meta.specs.declared.arguments.Argument.{Argument}

@@ -1,7 +1,7 @@
 -- Default values of variables that are never used, or do not conform to the variable's type (section 5.6.1).
 use Rattle.std.specs.Prelude.{◌≡◌, ℕ, List, [], ◌++◌, Bool, true, false, Option, Some, None, codes}
-use Rattle.language.specs.declared.value.InputValue.{InputValue}
-use Rattle.language.specs.Types.{TypeShape, is_never_null, shape, printed}
+use Rattle.language_values.specs.declared.value.InputValue.{InputValue}
+use Rattle.language_types.specs.Types.{TypeShape, is_never_null, shape, printed}
 use Rattle.meta.specs.Answers.{Answers}
 use Rattle.schema.specs.Catalog.{Catalog}
 use Rattle.events.specs.Node.{Node, Placed, variable_definition}

@@ -1,7 +1,7 @@
 -- Errors at values that do not conform to a type.
 use Rattle.std.specs.Prelude.{◌≡◌, ℕ, List, [], ◌∷◌, Option, Some, None}
-use Rattle.language.specs.declared.value.InputValue.{InputValue}
-use Rattle.language.specs.Types.{TypeShape}
+use Rattle.language_values.specs.declared.value.InputValue.{InputValue}
+use Rattle.language_types.specs.Types.{TypeShape}
 use Rattle.meta.specs.Answers.{Answers}
 use Rattle.schema.specs.Catalog.{Catalog}
 use Rattle.literals.specs.Judged.{WrittenFault}

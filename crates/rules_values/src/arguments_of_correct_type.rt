@@ -1,7 +1,7 @@
 //! The value of each argument conforms to the argument's type (GraphQL, October 2021, section 5.6.1).
 
 ghost use Rattle.std.specs.Prelude.{◌≡◌, IfOk, OnOk, OnErr, string_bytes};
-ghost use Rattle.language.specs.ValuesPrinted.{printed_value};
+ghost use Rattle.language_values.specs.ValuesPrinted.{printed_value};
 ghost use Rattle.walk.specs.ContextState.{typing};
 ghost use Rattle.walk.specs.Entering.{everywhere, given, relating_step};
 ghost use Rattle.walk.specs.Rule.{always, any_value, Appended};
@@ -13,9 +13,9 @@ ghost use Rattle.rules_values.specs.ArgumentsOfCorrectType.{HasRightValue, wrong
 ghost use Rattle.rules_values.specs.Faults.{reported};
 
 use crate::faults::fault_at;
-use language::error::OutOfMemory;
-use language::position::Spanning;
-use language::value::InputValue;
+use language_types::error::OutOfMemory;
+use language_types::position::Spanning;
+use language_values::value::InputValue;
 use meta::check::CheckedScalar;
 use std::alloc::{AllocError, Global};
 use walk::{Criterion, Event, Fresh, Machine, Rule, SettledRule, ValidatorContext, Visitor};

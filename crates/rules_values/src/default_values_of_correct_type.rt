@@ -2,8 +2,8 @@
 //! juniper, only a variable whose type may be null has one.
 
 ghost use Rattle.std.specs.Prelude.{◌≡◌, Some, IfOk, OnOk, OnErr, string_bytes};
-ghost use Rattle.language.specs.Types.{is_never_null, printed, shape};
-ghost use Rattle.language.specs.ValuesPrinted.{printed_value};
+ghost use Rattle.language_types.specs.Types.{is_never_null, printed, shape};
+ghost use Rattle.language_values.specs.ValuesPrinted.{printed_value};
 ghost use Rattle.walk.specs.Entering.{everywhere, given, relating_step};
 ghost use Rattle.walk.specs.Rule.{always, any_value, Appended};
 ghost use Rattle.walk.specs.Step.{KeepsPlace};
@@ -15,10 +15,10 @@ ghost use Rattle.rules_values.specs.DefaultValuesOfCorrectType.{wrong_default_me
 ghost use Rattle.rules_values.specs.Faults.{reported};
 
 use crate::faults::fault_at;
-use language::error::OutOfMemory;
-use language::position::Spanning;
-use language::types::Type;
-use language::value::InputValue;
+use language_types::error::OutOfMemory;
+use language_types::position::Spanning;
+use language_types::types::Type;
+use language_values::value::InputValue;
 use meta::check::CheckedScalar;
 use std::alloc::{AllocError, Global};
 use walk::{Criterion, Event, Fresh, Machine, Rule, SettledRule, ValidatorContext, Visitor};

@@ -1,13 +1,13 @@
 //! The fault of a value, by the schema of a context.
 
 ghost use Rattle.std.specs.Prelude.{IfOk, option_map, string_bytes};
-ghost use Rattle.language.specs.Types.{borrowed_shape};
-ghost use Rattle.language.specs.ValuesPrinted.{printed_value};
+ghost use Rattle.language_types.specs.Types.{borrowed_shape};
+ghost use Rattle.language_values.specs.ValuesPrinted.{printed_value};
 ghost use Rattle.literals.specs.Judged.{WrittenFault};
 
-use language::error::OutOfMemory;
-use language::types::BorrowedType;
-use language::value::InputValue;
+use language_types::error::OutOfMemory;
+use language_types::types::BorrowedType;
+use language_values::value::InputValue;
 use literals::validate_written_value;
 use meta::check::CheckedScalar;
 use std::alloc::Global;

@@ -2,10 +2,10 @@
 use Rattle.std.specs.Prelude.{ℕ, List, Bool, true, false, ◌||◌, codes, string_bytes}
 use Rattle.std.specs.Cmp.Lexicographic.{pointwise}
 use Rattle.std.specs.Prelude.{◌==◌}
-use Rattle.language.specs.declared.value.DefaultScalarValue.{DefaultScalarValue}
-use Rattle.language.specs.declared.value.DefaultScalarValue.TheVariants as d
-use Rattle.language.specs.declared.value.InputValue.{InputValue, out-InputValue}
-use Rattle.language.specs.declared.value.InputValue.TheOpen as o
+use Rattle.language_values.specs.declared.value.DefaultScalarValue.{DefaultScalarValue}
+use Rattle.language_values.specs.declared.value.DefaultScalarValue.TheVariants as d
+use Rattle.language_values.specs.declared.value.InputValue.{InputValue, out-InputValue}
+use Rattle.language_values.specs.declared.value.InputValue.TheOpen as o
 
 abbrev pub Layer : Type 0
 Layer = o.InputValue-F DefaultScalarValue (InputValue DefaultScalarValue)

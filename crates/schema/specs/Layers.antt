@@ -1,7 +1,7 @@
 -- The test for subtypes, by modifiers; both lists are read from the outside.
 use Rattle.std.specs.Prelude.{List, [], ◌∷◌, Bool, false}
-use Rattle.language.specs.declared.types.TypeModifier.{TypeModifier}
-use Rattle.language.specs.declared.types.TypeModifier.TheVariants as m
+use Rattle.language_types.specs.declared.types.TypeModifier.{TypeModifier}
+use Rattle.language_types.specs.declared.types.TypeModifier.TheVariants as m
 
 -- whether the types are, if their names are or not
 abbrev pub are_layers_below : Bool → List TypeModifier → List TypeModifier → Bool

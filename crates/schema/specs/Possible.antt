@@ -2,7 +2,7 @@
 use Rattle.std.specs.Prelude.{ℕ, List, Bool, false, ◌&&◌, ◌||◌, find, map, string_bytes, option_to_list}
 use Rattle.std.specs.List.{list_any, filter, filter_map}
 use Rattle.std.specs.Option.{option_map_or}
-pub use Rattle.language.specs.Names.{is_among}
+pub use Rattle.language_types.specs.Names.{is_among}
 use Rattle.meta.specs.declared.kinds.MetaTypeOf.{MetaTypeOf}
 use Rattle.meta.specs.declared.kinds.MetaTypeOf.TheVariants as m
 use Rattle.schema_validation.specs.Accepted.{is_named}

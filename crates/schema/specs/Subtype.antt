@@ -2,8 +2,8 @@
 use Rattle.std.specs.Prelude.{◌≡◌, ℕ, List, Bool, true, false, ◌&&◌, ◌||◌, Option, find}
 use Rattle.std.specs.Option.{option_map_or}
 use Rattle.std.specs.Str.{bytes_eq}
-use Rattle.language.specs.declared.types.TypeModifier.TheVariants as m
-use Rattle.language.specs.Types.{TypeShape, nullable_named, wrapped_by, list_of, IsNonNull}
+use Rattle.language_types.specs.declared.types.TypeModifier.TheVariants as m
+use Rattle.language_types.specs.Types.{TypeShape, nullable_named, wrapped_by, list_of, IsNonNull}
 use Rattle.meta.specs.declared.kinds.MetaTypeOf.{MetaTypeOf}
 use Rattle.schema_validation.specs.Accepted.{is_named, is_listed}
 use Rattle.meta.specs.Kinds.{is_abstract_meta}

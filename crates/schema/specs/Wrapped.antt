@@ -1,8 +1,8 @@
 -- The types of a schema: metadata with modifiers (section 3.4).
 use Rattle.std.specs.Prelude.{List, [], ◌∷◌, ◌++◌, Option, Some, None, option_map, reverse, unwrap_or}
-use Rattle.language.specs.declared.types.TypeModifier.{TypeModifier}
-use Rattle.language.specs.declared.types.TypeModifier.TheVariants as m
-use Rattle.language.specs.Types.{TypeShape}
+use Rattle.language_types.specs.declared.types.TypeModifier.{TypeModifier}
+use Rattle.language_types.specs.declared.types.TypeModifier.TheVariants as m
+use Rattle.language_types.specs.Types.{TypeShape}
 use Rattle.meta.specs.declared.kinds.MetaTypeOf.{MetaTypeOf}
 use Rattle.schema.specs.declared.model.types.TypeTypeOf.{TypeTypeOf}
 use Rattle.schema.specs.declared.model.types.TypeTypeOf.TheFolds.{fold-TypeTypeOf}

@@ -4,7 +4,7 @@ ghost use Rattle.schema_answers.specs.SchemaAnswers.{HasFaults, IsSchemaAnswer, 
 
 use answers::not_utf8_report;
 use graphql_reader::SourceScalar;
-use language::error::OutOfMemory;
+use language_types::error::OutOfMemory;
 use lint_report::json_report::json_report;
 use lint_schema::schema_of;
 use lint_sources::faults::Fault;

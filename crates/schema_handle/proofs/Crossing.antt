@@ -5,7 +5,7 @@ use denote.Struct.Declared as declared
 use denote.Struct.Declared.{Declared}
 use denote.Struct.Struct.{Struct}
 use Rattle.std.proofs.Crossing.{crosses}
-use Rattle.language.proofs.value.InputValue.TheLaws.TheKnot as knot
+use Rattle.language_values.proofs.value.InputValue.TheLaws.TheKnot as knot
 use Rattle.sdl_scalars.specs.contracts.scalar.SourceScalar.{the_row as S}
 use Rattle.sdl_scalars.specs.contracts.check.SourceCheck.{the_row as C}
 use Rattle.meta.specs.contracts.kinds.MetaTypeOf as MetaType

@@ -1,9 +1,9 @@
 //! Lists that are accepted, with the roots of their schemas, and lists that are refused.
 use crate::said::said;
 use crate::schemas::{Schema, demo_types, input_check, pets_types, schema_of};
-use language::error::OutOfMemory;
-use language::types::Type;
-use language::value::DefaultScalarValue;
+use language_types::error::OutOfMemory;
+use language_types::types::Type;
+use language_values::value::DefaultScalarValue;
 use meta::{InputObjectMetaOf, InterfaceMeta, ListMeta, MetaType};
 use samples::build::{argument, object, own_fields, union_of};
 use samples::documents::alone;

@@ -2,8 +2,8 @@
 use crate::relations::show_directives;
 use crate::said::said;
 use crate::schemas::{Schema, pets_schema};
-use language::error::OutOfMemory;
-use language::value::DefaultScalarValue;
+use language_types::error::OutOfMemory;
+use language_values::value::DefaultScalarValue;
 use samples::build::argument;
 use samples::documents::alone;
 use schema::error::SchemaError;

@@ -1,8 +1,8 @@
 //! Metadata: each call that allocates, by its result.
 use crate::builder::one_type;
 use crate::said::{says, words};
-use language::types::Type;
-use language::value::{DefaultScalarValue, InputValue};
+use language_types::types::Type;
+use language_values::value::{DefaultScalarValue, InputValue};
 use meta::check::CheckedScalar;
 use meta::default_check::DefaultCheck;
 use meta::{

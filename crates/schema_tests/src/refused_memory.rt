@@ -1,8 +1,8 @@
 //! Each allocation failing in turn, from metadata to calls of a schema.
 use crate::schemas::{Schema, demo_types, schema_of_queries};
-use language::error::OutOfMemory;
-use language::types::Type;
-use language::value::DefaultScalarValue;
+use language_types::error::OutOfMemory;
+use language_types::types::Type;
+use language_values::value::DefaultScalarValue;
 use meta::MetaType;
 use samples::rows::add_unions;
 use schema::error::SchemaError;

@@ -1,8 +1,8 @@
 //! Questions to the schema `pets`, each with its answer.
 use crate::said::said;
 use crate::schemas::{Schema, pets_schema};
-use language::types::Type;
-use language::value::DefaultScalarValue;
+use language_types::types::Type;
+use language_values::value::DefaultScalarValue;
 use meta::MetaType;
 use samples::rows::written;
 use schema::model::TypeType;

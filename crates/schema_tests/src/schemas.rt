@@ -1,6 +1,6 @@
 //! The schemas of the sample lists, with the same check for every type.
-use language::error::OutOfMemory;
-use language::value::DefaultScalarValue;
+use language_types::error::OutOfMemory;
+use language_values::value::DefaultScalarValue;
 use meta::MetaType;
 use meta::default_check::DefaultCheck;
 use samples::build::Checks;

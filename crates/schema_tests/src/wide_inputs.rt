@@ -1,7 +1,7 @@
 //! Input objects with few and with many fields: a look-up finds the first field of a name.
 use crate::said::says;
 use crate::schemas::{Schema, input_check, pets_types, schema_of_queries};
-use language::value::DefaultScalarValue;
+use language_values::value::DefaultScalarValue;
 use meta::{Argument, InputObjectMetaOf, MetaType};
 use samples::build::argument;
 use std::alloc::{AllocError, Global};

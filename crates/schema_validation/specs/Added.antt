@@ -1,7 +1,7 @@
 -- What a schema adds to a list of types: two fields of the query root, and four directives (sections 3.13 and 4.1).
 use Rattle.std.specs.Prelude.{◌≡◌, ℕ, List, [], ◌∷◌, ◌++◌, Bool, false, Option, Some, None, is_some, codes, map}
 use Rattle.std.specs.Prelude.{option_map, string_bytes}
-use Rattle.language.specs.Types.{TypeShape, shape, non_null_named}
+use Rattle.language_types.specs.Types.{TypeShape, shape, non_null_named}
 use Rattle.meta.specs.declared.arguments.Argument.{Argument}
 use Rattle.meta.specs.declared.fields.Field.{Field}
 use Rattle.meta.specs.declared.objects.ObjectMeta.{ObjectMeta}

@@ -1,7 +1,7 @@
 -- The names of types that metadata names (section 3.3).
 use Rattle.std.specs.Prelude.{ℕ, List, [], ◌∷◌, ◌++◌, codes, map, string_bytes}
 use Rattle.std.specs.List.{flat_map}
-use Rattle.language.specs.Types.{shape}
+use Rattle.language_types.specs.Types.{shape}
 use Rattle.meta.specs.declared.arguments.Argument.{Argument}
 use Rattle.meta.specs.declared.fields.Field.{Field}
 use Rattle.meta.specs.declared.kinds.MetaTypeOf.{MetaTypeOf}

@@ -5,8 +5,8 @@ ghost use Rattle.schema_validation.specs.Added.{type_field, with_argument, condi
 ghost use Rattle.schema_validation.specs.Added.{specified_by_shape, standard_directives};
 
 use crate::directives::{DirectiveLocation, DirectiveType};
-use language::error::OutOfMemory;
-use language::types::Type;
+use language_types::error::OutOfMemory;
+use language_types::types::Type;
 use meta::arguments::Argument;
 use meta::fields::Field;
 use std::alloc::Global;

@@ -2,8 +2,8 @@
 ghost use Rattle.std.specs.Prelude.{◌≡◌, IfOk, None, Some, option_map, string_bytes};
 ghost use Rattle.schema_validation.specs.Locations.{location_words};
 
-use language::error::OutOfMemory;
-use language::value::DefaultScalarValue;
+use language_types::error::OutOfMemory;
+use language_values::value::DefaultScalarValue;
 use meta::arguments::Argument;
 use std::alloc::Global;
 use std::fmt;

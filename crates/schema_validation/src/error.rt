@@ -2,7 +2,7 @@
 ghost use Rattle.std.specs.Prelude.{Some};
 ghost use Rattle.schema_validation.specs.ErrorTexts.{error_text};
 
-use language::error::OutOfMemory;
+use language_types::error::OutOfMemory;
 use std::alloc::{AllocError, AllocFailed};
 use std::error::Error;
 use std::fmt;

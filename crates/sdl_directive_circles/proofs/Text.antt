@@ -2,9 +2,9 @@
 use Rattle.std.proofs.Common.{◌≡◌, ℕ, ◌+◌, ◌<◌, List, ◌∷◌, ◌++◌, Bor, true, length, get_or, drop, drop-cons, add-one, codes, refl, sym, ap, ◌∙◌}
 use Rattle.std.specs.Fmt.{HasWritten, IsPlainFormatter}
 use Rattle.std.specs.declared.fmt.Formatter.{Formatter}
-use Rattle.language.specs.References.{list_copied}
-use Rattle.language.specs.ValuesLeft.{WritesPart}
-use Rattle.language.proofs.PrintLeft.{part_one, part_then}
+use Rattle.language_types.specs.References.{list_copied}
+use Rattle.language_values.specs.ValuesLeft.{WritesPart}
+use Rattle.language_values.proofs.PrintLeft.{part_one, part_then}
 use Rattle.sdl_directive_circles.specs.Circles.{steps_text}
 
 module _ {W : Type 0} (took : W → List ℕ → W → Type 0) where

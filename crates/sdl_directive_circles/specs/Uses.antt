@@ -12,7 +12,7 @@ use Rattle.graphql_reader.specs.declared.type_system.TypeBody.{TypeBody}
 use Rattle.graphql_reader.specs.declared.type_system.TypeBody.TheVariants as b
 use Rattle.graphql_reader.specs.declared.type_system.TypeSystemDefinition.{TypeSystemDefinition}
 use Rattle.graphql_reader.specs.declared.type_system.TypeSystemDefinition.TheVariants as d
-use Rattle.language.specs.Types.{shape}
+use Rattle.language_types.specs.Types.{shape}
 use Rattle.sdl_directives.specs.Judged.{applied_name}
 use Rattle.sdl_directives.specs.Sites.{Applied, SiteValue, definition_sites}
 use Rattle.sdl_directive_circles.specs.declared.names.NameOf.{NameOf}

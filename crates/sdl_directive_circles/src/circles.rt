@@ -3,7 +3,7 @@ ghost use Rattle.std.specs.Prelude.{◌≡◌, ◌++◌, ◌↔◌, [], IfOk, On
 ghost use Rattle.std.specs.Fmt.{WritesOnOk};
 ghost use Rattle.std.specs.List.{flat_map};
 ghost use Rattle.graph_ways.specs.Onward.{LeadBack};
-ghost use Rattle.language.specs.References.{list_copied};
+ghost use Rattle.language_types.specs.References.{list_copied};
 ghost use Rattle.sdl_directives.specs.Known.{directive_of};
 ghost use Rattle.sdl_directive_circles.specs.Circles.{AddsCircles, AreCircles, HasNoDirectiveCircle, IsToldOf};
 ghost use Rattle.sdl_directive_circles.specs.Circles.{circle_text, circle_value, circle_values, steps_text};

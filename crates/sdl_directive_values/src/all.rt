@@ -1,6 +1,6 @@
 //! The faults of all values of arguments of directives.
 ghost use Rattle.std.specs.Prelude.{◌≡◌, ◌↔◌, [], IfOk, OnOk, map};
-ghost use Rattle.language.specs.ValuesPrinted.{printed_value};
+ghost use Rattle.language_values.specs.ValuesPrinted.{printed_value};
 ghost use Rattle.sdl_scalars.specs.Checks.{MayAnswer};
 ghost use Rattle.sdl_scalars.specs.SourceScalar.{source_str, source_text};
 ghost use Rattle.sdl_directive_values.specs.Conforming.{HasConformingValues};

@@ -6,8 +6,8 @@ use Rattle.graphql_reader.specs.declared.type_system.DirectiveDefinition.{Direct
 use Rattle.graphql_reader.specs.declared.type_system.DirectivePlace.{DirectivePlace}
 use Rattle.graphql_reader.specs.declared.type_system.InputValueDefinition.{InputValueDefinition}
 use Rattle.graphql_reader.specs.declared.type_system.TypeSystemDefinition.{TypeSystemDefinition}
-use Rattle.language.specs.declared.position.SourcePosition.{SourcePosition}
-use Rattle.language.specs.Types.{shape}
+use Rattle.language_types.specs.declared.position.SourcePosition.{SourcePosition}
+use Rattle.language_types.specs.Types.{shape}
 use Rattle.sdl_directives.specs.declared.fault.DirectiveFaultOf.TheVariants as k
 use Rattle.sdl_directives.specs.Arguments.{Given, argument_faults, argument_judged, arguments_of, has_argument, is_missing, is_parameter, missing_argument, missing_arguments}
 use Rattle.sdl_directives.specs.Earlier.{EachAfter, each_after}

@@ -7,9 +7,9 @@ use Rattle.graphql_reader.specs.declared.type_system.DirectiveDefinition.{Direct
 use Rattle.graphql_reader.specs.declared.type_system.InputValueDefinition.{InputValueDefinition}
 use Rattle.language.specs.declared.tree.Arguments.{Arguments}
 use Rattle.language.specs.declared.tree.Directive.{Directive}
-use Rattle.language.specs.declared.value.InputValue.{InputValue}
-use Rattle.language.specs.Position.{Placed}
-use Rattle.language.specs.Types.{is_never_null, shape}
+use Rattle.language_values.specs.declared.value.InputValue.{InputValue}
+use Rattle.language_types.specs.Position.{Placed}
+use Rattle.language_types.specs.Types.{is_never_null, shape}
 use Rattle.sdl_scalars.specs.declared.scalar.SourceScalar.{SourceScalar}
 use Rattle.sdl_directives.specs.declared.fault.DirectiveFaultOf.TheVariants as k
 use Rattle.sdl_directives.specs.Earlier.{each_after}

@@ -1,9 +1,9 @@
 -- What is wrong with directives of a type system document, as values without references.
 use denote.Ref.{Bor}
 use Rattle.std.specs.Prelude.{ℕ, List, [], ◌∷◌, Bool, true, false, map}
-use Rattle.language.specs.declared.position.SourcePosition.{SourcePosition}
-use Rattle.language.specs.declared.types.BorrowedType.{BorrowedType}
-use Rattle.language.specs.Types.{TypeShape, borrowed_shape}
+use Rattle.language_types.specs.declared.position.SourcePosition.{SourcePosition}
+use Rattle.language_types.specs.declared.types.BorrowedType.{BorrowedType}
+use Rattle.language_types.specs.Types.{TypeShape, borrowed_shape}
 use Rattle.sdl_directives.specs.declared.fault.DirectiveFaultOf.{DirectiveFaultOf}
 use Rattle.sdl_directives.specs.declared.fault.DirectiveFaultOf.TheVariants as k
 use Rattle.sdl_directives.specs.declared.fault.PlacedDirectiveFault.{PlacedDirectiveFault}

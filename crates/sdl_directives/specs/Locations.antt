@@ -6,7 +6,7 @@ use Rattle.graphql_reader.specs.declared.type_system.DirectivePlace.{DirectivePl
 use Rattle.graphql_reader.specs.declared.type_system.DirectivePlace.TheVariants as l
 use Rattle.graphql_reader.specs.declared.type_system.TypeBody.{TypeBody}
 use Rattle.graphql_reader.specs.declared.type_system.TypeBody.TheVariants as b
-use Rattle.language.specs.Position.{Placed}
+use Rattle.language_types.specs.Position.{Placed}
 
 -- the name of a location, in lower case with spaces between the words
 abbrev pub location_words : DirectivePlace → List ℕ

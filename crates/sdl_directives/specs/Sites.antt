@@ -12,7 +12,7 @@ use Rattle.graphql_reader.specs.declared.type_system.TypeBody.TheVariants as b
 use Rattle.graphql_reader.specs.declared.type_system.TypeSystemDefinition.{TypeSystemDefinition}
 use Rattle.graphql_reader.specs.declared.type_system.TypeSystemDefinition.TheVariants as d
 use Rattle.language.specs.declared.tree.Directive.{Directive}
-use Rattle.language.specs.Position.{Placed}
+use Rattle.language_types.specs.Position.{Placed}
 use Rattle.sdl_scalars.specs.declared.scalar.SourceScalar.{SourceScalar}
 use Rattle.sdl_directives.specs.declared.sites.Site.{Site}
 use Rattle.sdl_directives.specs.Locations.{body_location}

@@ -1,6 +1,6 @@
 -- The texts of what is wrong with directives; those of the rules on documents.
 use Rattle.std.specs.Prelude.{ℕ, List, ◌++◌, codes}
-use Rattle.language.specs.Types.{printed}
+use Rattle.language_types.specs.Types.{printed}
 use Rattle.sdl_directives.specs.declared.fault.DirectiveFaultOf.TheVariants as k
 use Rattle.sdl_directives.specs.Fault.{KindValue}
 use Rattle.sdl_directives.specs.Locations.{location_words}

@@ -1,7 +1,7 @@
 //! What is wrong with a directive of a type system document.
 ghost use Rattle.std.specs.Prelude.{◌≡◌, ◌++◌, ◌∷◌, [], OnOk, Some};
 ghost use Rattle.std.specs.Fmt.{WritesOnOk};
-ghost use Rattle.language.specs.Types.{borrowed_shape};
+ghost use Rattle.language_types.specs.Types.{borrowed_shape};
 ghost use Rattle.sdl_directives.specs.Fault.{fault_values, kind_value};
 ghost use Rattle.sdl_directives.specs.Texts.{kind_text};
 

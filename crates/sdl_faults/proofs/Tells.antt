@@ -5,7 +5,7 @@ use Rattle.std.proofs.lemmas.List.Elements.{filter-append}
 use Rattle.std.proofs.lemmas.List.Sorted.{IsPermutation-map}
 use Rattle.std.specs.List.Sorted.{IsNonDecreasingBy, IsPermutation}
 use Rattle.graphql_reader.specs.declared.type_system.TypeSystemDefinition.{TypeSystemDefinition}
-use Rattle.language.specs.declared.position.SourcePosition.{SourcePosition}
+use Rattle.language_types.specs.declared.position.SourcePosition.{SourcePosition}
 use Rattle.sdl_mending.specs.declared.mended.Mended.{Mended}
 use Rattle.sdl_faults.specs.Apart.{AreApartFaults, AreCompared, TellsRest}
 use Rattle.sdl_faults.specs.declared.located.LocatedFault.{LocatedFault}

@@ -4,7 +4,7 @@ use Rattle.std.specs.List.{flat_map}
 use Rattle.std.specs.List.Sorted.{IsPermutation}
 use Rattle.std.proofs.lemmas.List.Sorted.{length_permutation}
 use Rattle.graphql_reader.specs.declared.type_system.TypeSystemDefinition.{TypeSystemDefinition}
-use Rattle.language.specs.ValuesPrinted.{printed_value}
+use Rattle.language_values.specs.ValuesPrinted.{printed_value}
 use Rattle.sdl_directive_circles.specs.Circles.{HasNoDirectiveCircle}
 use Rattle.sdl_directive_values.specs.Conforming.{HasConformingValues}
 use Rattle.sdl_directive_values.specs.Faults.{reported, value_fault}

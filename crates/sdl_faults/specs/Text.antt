@@ -2,7 +2,7 @@
 use Rattle.std.specs.Prelude.{◌≡◌, ◌↔◌, ◌++◌, List, [], map}
 use Rattle.std.specs.List.Sorted.{IsNonDecreasingBy, IsPermutation}
 use Rattle.graphql_reader.specs.declared.type_system.TypeSystemDefinition.{TypeSystemDefinition}
-use Rattle.language.specs.ValuesPrinted.{printed_value}
+use Rattle.language_values.specs.ValuesPrinted.{printed_value}
 use Rattle.sdl_directive_circles.specs.declared.circles.DirectiveCircle.{DirectiveCircle}
 use Rattle.sdl_directive_circles.specs.Circles as circles
 use Rattle.sdl_directive_circles.specs.Circles.{HasNoDirectiveCircle, circle_values}

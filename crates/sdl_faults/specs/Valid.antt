@@ -1,7 +1,7 @@
 -- Schemas of which nothing is told (section 3).
 use Rattle.std.specs.Prelude.{List}
 use Rattle.graphql_reader.specs.declared.type_system.TypeSystemDefinition.{TypeSystemDefinition}
-use Rattle.language.specs.ValuesPrinted.{printed_value}
+use Rattle.language_values.specs.ValuesPrinted.{printed_value}
 use Rattle.sdl_directive_circles.specs.Circles.{HasNoDirectiveCircle}
 use Rattle.sdl_directive_values.specs.Conforming.{HasConformingValues}
 use Rattle.sdl_directives.specs.Right.{HasRightDirectives}

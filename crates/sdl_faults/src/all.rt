@@ -13,7 +13,7 @@ use crate::located::LocatedFault;
 use crate::telling::tell_each;
 use graphql_reader::SourceScalar;
 use graphql_reader::type_system::TypeSystemDefinition;
-use language::error::OutOfMemory;
+use language_types::error::OutOfMemory;
 use schema::model::SchemaType;
 use sdl_mending::Mended;
 use sdl_own_faults::own_faults;

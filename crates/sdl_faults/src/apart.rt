@@ -11,7 +11,7 @@ use crate::directives::add_given;
 use crate::located::LocatedFault;
 use crate::telling::tell_each;
 use graphql_reader::type_system::TypeSystemDefinition;
-use language::error::OutOfMemory;
+use language_types::error::OutOfMemory;
 use sdl_mending::{Mended, Touched};
 use std::alloc::Global;
 use type_system::schema_faults;

@@ -7,7 +7,7 @@ use crate::located::LocatedFault;
 use crate::telling::tell_each;
 use graphql_reader::SourceScalar;
 use graphql_reader::type_system::TypeSystemDefinition;
-use language::error::OutOfMemory;
+use language_types::error::OutOfMemory;
 use schema::model::SchemaType;
 use sdl_directive_circles::directive_circles;
 use sdl_directive_values::directive_value_faults;

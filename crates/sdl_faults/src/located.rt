@@ -5,8 +5,8 @@ ghost use Rattle.sdl_faults.specs.Told.{Tells, place_index};
 ghost use Rattle.sdl_places.specs.Places.{place_in};
 
 use graphql_reader::type_system::TypeSystemDefinition;
-use language::error::OutOfMemory;
-use language::position::SourcePosition;
+use language_types::error::OutOfMemory;
+use language_types::position::SourcePosition;
 use sdl_places::place_of;
 use std::alloc::Global;
 use std::fmt;

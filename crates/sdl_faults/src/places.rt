@@ -4,8 +4,8 @@ ghost use Rattle.std.specs.List.{flat_map};
 ghost use Rattle.sdl_faults.specs.Told.{field_place, field_places};
 
 use graphql_reader::type_system::TypeSystemDefinition;
-use language::error::OutOfMemory;
-use language::position::SourcePosition;
+use language_types::error::OutOfMemory;
+use language_types::position::SourcePosition;
 use sdl_places::place_of;
 use std::alloc::Global;
 use type_system_inputs::RequiredField;

@@ -12,7 +12,7 @@ ghost use Rattle.sdl_faults.specs.Told.{told_given, told_own, told_use, told_val
 use crate::located::{LocatedFault, tell, tell_at, tell_there};
 use crate::places::{place_of_field, places_of};
 use graphql_reader::type_system::TypeSystemDefinition;
-use language::error::OutOfMemory;
+use language_types::error::OutOfMemory;
 use sdl_directive_circles::DirectiveCircle;
 use sdl_directive_values::ValueFault;
 use sdl_directives::PlacedDirectiveFault;

@@ -10,7 +10,7 @@ use Rattle.std.proofs.lemmas.List.Folds.{list_any-append}
 use Rattle.std.proofs.lemmas.List.Sorted.{list_any-IsPermutation}
 use Rattle.graphql_reader.specs.declared.type_system.RootOperationType.{RootOperationType}
 use Rattle.graphql_reader.specs.declared.type_system.TypeSystemDefinition.{TypeSystemDefinition}
-use Rattle.language.specs.Names.{is_among}
+use Rattle.language_types.specs.Names.{is_among}
 use Rattle.name_tables.specs.declared.map.NameMap.{NameMap}
 use Rattle.name_tables.specs.Adding.{Adds, or_else}
 use Rattle.name_tables.specs.Maps.{index_of}

@@ -6,9 +6,9 @@ use Rattle.std.specs.Option.{is_some}
 use Rattle.graphql_reader.specs.declared.type_system.RootOperationType.{RootOperationType}
 use Rattle.graphql_reader.specs.declared.type_system.TypeSystemDefinition.{TypeSystemDefinition}
 use Rattle.graphql_reader.specs.declared.type_system.TypeSystemDefinition.TheVariants as d
-use Rattle.language.specs.declared.position.Span.{Span}
-use Rattle.language.specs.Names.{is_among}
-use Rattle.language.specs.Position.{index_of}
+use Rattle.language_types.specs.declared.position.Span.{Span}
+use Rattle.language_types.specs.Names.{is_among}
+use Rattle.language_types.specs.Position.{index_of}
 use Rattle.name_tables.specs.declared.map.NameMap.{NameMap}
 use Rattle.name_tables.specs.Maps as maps
 use Rattle.schema_validation.specs.declared.error.SchemaError.TheVariants as e

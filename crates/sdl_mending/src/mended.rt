@@ -5,7 +5,7 @@ use crate::shells::add_shells;
 use crate::touched::{Touched, span_of};
 use graphql_reader::type_system::TypeSystemDefinition;
 use graphql_reader::{SourceScalar, read_type_system};
-use language::error::OutOfMemory;
+use language_types::error::OutOfMemory;
 use schema::model::{Dialect, SchemaTypeOf};
 use sdl_reader::{SchemaReadError, read_schema};
 use sdl_scalars::check::SourceCheck;

@@ -3,8 +3,8 @@ ghost use Rattle.std.specs.Prelude.{◌≡◌, ◌++◌, IfOk, OnOk};
 ghost use Rattle.std.specs.List.Sorted.{IsNonDecreasingBy, IsPermutation};
 ghost use Rattle.sdl_mending.specs.Touched.{has_reason, places, standing};
 
-use language::error::OutOfMemory;
-use language::position::Span;
+use language_types::error::OutOfMemory;
+use language_types::position::Span;
 use sdl_index::error::{PlacedFault, SchemaFault};
 use std::alloc::Global;
 

@@ -1,7 +1,7 @@
 //! Definitions without members, in place of touched types.
 use crate::touched::{STAND_IN, Touched};
 use graphql_reader::type_system::{TypeBody, TypeDefinition, TypeSystemDefinition};
-use language::error::OutOfMemory;
+use language_types::error::OutOfMemory;
 use name_tables::map::NameMap;
 use std::alloc::Global;
 

@@ -2,14 +2,14 @@
 ghost use Rattle.std.specs.Prelude.{◌≡◌, ◌∷◌, [], List, ℕ, IfOk, OnOk};
 ghost use Rattle.std.specs.List.{flat_map};
 ghost use Rattle.std.specs.List.Sorted.{IsNonDecreasingBy};
-ghost use Rattle.language.specs.Names.{is_among};
+ghost use Rattle.language_types.specs.Names.{is_among};
 ghost use Rattle.sdl_mending.specs.Touched.{Grows, has_type, named_by, root_names, span_of, touched_in, touched_types};
 ghost use Rattle.sdl_mending.specs.Touched.{types_of};
 
 use crate::places::{has_reason, places_of};
 use graphql_reader::type_system::{RootOperationType, TypeSystemDefinition};
-use language::error::OutOfMemory;
-use language::position::Span;
+use language_types::error::OutOfMemory;
+use language_types::position::Span;
 use name_tables::map::NameMap;
 use schema::error::SchemaError;
 use sdl_index::error::{PlacedFault, SchemaFault};

@@ -3,7 +3,7 @@ use denote.Ref.{Bor}
 use Rattle.std.proofs.Common.{◌≡◌, ◌∙◌, ℕ, ◌+◌, ◌<◌, List, [], ◌∷◌, ◌++◌, length, get_or, take, refl, sym, ap}
 use Rattle.std.specs.List.{flat_map}
 use Rattle.std.proofs.lemmas.List.{get_or_default, map-append}
-use Rattle.language.specs.References.{list_copied}
+use Rattle.language_types.specs.References.{list_copied}
 use Rattle.sdl_directives.specs.Earlier.{each_after}
 use Rattle.graphql_reader.specs.declared.type_system.TypeDefinition.{TypeDefinition}
 use Rattle.sdl_directives.proofs.Earlier.{after_next, flat_mapped}

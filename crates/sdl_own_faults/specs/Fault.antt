@@ -2,8 +2,8 @@
 use denote.Ref.{Bor}
 use Rattle.std.specs.Prelude.{ℕ, List, [], ◌∷◌, Bool, true, false, Vec, map}
 use Rattle.std.specs.declared.alloc.Global.{Global}
-use Rattle.language.specs.declared.position.SourcePosition.{SourcePosition}
-use Rattle.language.specs.Position.{Placed}
+use Rattle.language_types.specs.declared.position.SourcePosition.{SourcePosition}
+use Rattle.language_types.specs.Position.{Placed}
 use Rattle.type_system_report.specs.Fault.{CoordinateValue, FaultValue, KindValue, fault_value}
 use Rattle.sdl_own_faults.specs.declared.fault.OwnFault.{OwnFault}
 

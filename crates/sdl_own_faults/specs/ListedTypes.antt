@@ -5,7 +5,7 @@ use Rattle.std.specs.Str.{bytes_eq}
 use Rattle.graphql_reader.specs.declared.type_system.TypeBody.{TypeBody}
 use Rattle.graphql_reader.specs.declared.type_system.TypeBody.TheVariants as b
 use Rattle.graphql_reader.specs.declared.type_system.TypeDefinition.{TypeDefinition}
-use Rattle.language.specs.Names.{is_among}
+use Rattle.language_types.specs.Names.{is_among}
 use Rattle.sdl_directives.specs.Earlier.{each_after}
 use Rattle.type_system_report.specs.declared.fault.CoordinateOf.TheVariants as c
 use Rattle.type_system_report.specs.declared.fault.FaultKindOf.TheVariants as k

@@ -12,7 +12,7 @@ use crate::parts::{Part, extensions_in, listing_in};
 use crate::reserved_names::{report_reserved_name, report_reserved_type};
 use crate::some_members::report_missing_members;
 use graphql_reader::type_system::{DirectiveDefinition, TypeDefinition, TypeSystemDefinition};
-use language::error::OutOfMemory;
+use language_types::error::OutOfMemory;
 use std::alloc::Global;
 use type_system_report::CoordinateOf;
 

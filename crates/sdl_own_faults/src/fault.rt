@@ -3,8 +3,8 @@ ghost use Rattle.std.specs.Prelude.{◌≡◌, ◌++◌, ◌∷◌, [], OnOk};
 ghost use Rattle.type_system_report.specs.Fault.{coordinate_value, kind_value};
 ghost use Rattle.sdl_own_faults.specs.Fault.{fault_at, reported};
 
-use language::error::OutOfMemory;
-use language::position::{SourcePosition, Spanning};
+use language_types::error::OutOfMemory;
+use language_types::position::{SourcePosition, Spanning};
 use type_system_report::{Coordinate, Fault, FaultKind, FaultOf};
 
 /// A fault of a definition, and the position of the name at its coordinate there.

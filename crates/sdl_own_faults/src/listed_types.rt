@@ -1,7 +1,7 @@
 //! A type implements an interface once, and not itself; a union has each member once (GraphQL, October 2021, sections
 //! 3.6 to 3.8).
 ghost use Rattle.std.specs.Prelude.{◌≡◌, ◌++◌, [], OnOk};
-ghost use Rattle.language.specs.References.{list_copied};
+ghost use Rattle.language_types.specs.References.{list_copied};
 ghost use Rattle.sdl_directives.specs.Earlier.{each_after};
 ghost use Rattle.type_system_report.specs.Fault.{kind_value};
 ghost use Rattle.sdl_own_faults.specs.Fault.{reported};
@@ -13,7 +13,7 @@ use crate::fault::{OwnFault, report};
 use crate::names::{is_name_among, listed_names};
 use crate::parts::Part;
 use graphql_reader::type_system::{TypeBody, TypeDefinition};
-use language::error::OutOfMemory;
+use language_types::error::OutOfMemory;
 use std::alloc::Global;
 use type_system_report::{CoordinateOf, FaultKind, FaultKindOf};
 

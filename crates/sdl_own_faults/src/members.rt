@@ -12,7 +12,7 @@ use crate::reserved_names::{report_reserved_field, report_reserved_name};
 use graphql_reader::type_system::{
     EnumValueDefinition, FieldDefinition, InputValueDefinition, TypeBody, TypeDefinition,
 };
-use language::error::OutOfMemory;
+use language_types::error::OutOfMemory;
 use type_system_report::{Coordinate, CoordinateOf};
 
 /// Reports the faults of the members of a definition or extension of a type.

@@ -1,15 +1,15 @@
 //! The names of the types that a type lists: of the members of a union, or of interfaces.
 ghost use Rattle.std.specs.Prelude.{◌≡◌, ◌++◌, IfOk, OnOk};
 ghost use Rattle.std.specs.List.{flat_map};
-ghost use Rattle.language.specs.Names.{is_among};
-ghost use Rattle.language.specs.References.{list_copied};
+ghost use Rattle.language_types.specs.Names.{is_among};
+ghost use Rattle.language_types.specs.References.{list_copied};
 ghost use Rattle.sdl_own_faults.specs.Names.{listed_names, names_in, written_names};
 ghost use Rattle.sdl_own_faults.specs.Parts.{definitions_of};
 
 use crate::parts::{Part, extends, listed_by};
 use graphql_reader::type_system::TypeDefinition;
-use language::error::OutOfMemory;
-use language::position::Spanning;
+use language_types::error::OutOfMemory;
+use language_types::position::Spanning;
 use std::alloc::Global;
 
 /// The names of the types that a type lists in its definition, and then in those of these extensions that extend it.

@@ -4,8 +4,8 @@ ghost use Rattle.sdl_own_faults.specs.Parts.{definitions_of, extends, extension_
 ghost use Rattle.sdl_own_faults.specs.Parts.{listed_by, listing_in, listing_of};
 
 use graphql_reader::type_system::{TypeBody, TypeDefinition, TypeSystemDefinition};
-use language::error::OutOfMemory;
-use language::position::Spanning;
+use language_types::error::OutOfMemory;
+use language_types::position::Spanning;
 use std::alloc::Global;
 
 /// A definition or extension of a type.

@@ -8,7 +8,7 @@ ghost use Rattle.sdl_own_faults.specs.RequiredMembers.{is_required_deprecated};
 
 use crate::fault::{OwnFault, report};
 use graphql_reader::type_system::InputValueDefinition;
-use language::error::OutOfMemory;
+use language_types::error::OutOfMemory;
 use type_system_report::{Coordinate, CoordinateOf, FaultKind, FaultKindOf};
 
 /// Reports the argument or the input field at a coordinate, if it is required and deprecated.

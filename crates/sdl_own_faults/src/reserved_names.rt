@@ -8,8 +8,8 @@ ghost use Rattle.sdl_own_faults.specs.ReservedNames.{reserved_type};
 
 use crate::fault::{OwnFault, report};
 use graphql_reader::type_system::{FieldDefinition, TypeDefinition};
-use language::error::OutOfMemory;
-use language::position::Spanning;
+use language_types::error::OutOfMemory;
+use language_types::position::Spanning;
 use type_system_report::{Coordinate, CoordinateOf, FaultKindOf};
 
 /// Reports the name at a coordinate, if it is reserved.

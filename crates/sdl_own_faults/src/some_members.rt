@@ -10,7 +10,7 @@ ghost use Rattle.sdl_own_faults.specs.Parts.{definitions_of};
 use crate::fault::{OwnFault, report};
 use crate::parts::{Part, extends};
 use graphql_reader::type_system::{FieldDefinition, TypeBody, TypeDefinition};
-use language::error::OutOfMemory;
+use language_types::error::OutOfMemory;
 use type_system_report::{CoordinateOf, FaultKind, FaultKindOf};
 
 /// Reports a type that lists no member, and none of whose extensions does, where it needs one.

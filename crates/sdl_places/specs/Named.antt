@@ -6,7 +6,7 @@ use Rattle.graphql_reader.specs.declared.type_system.TypeBody.{TypeBody}
 use Rattle.graphql_reader.specs.declared.type_system.TypeBody.TheVariants as b
 use Rattle.graphql_reader.specs.declared.type_system.TypeSystemDefinition.{TypeSystemDefinition}
 use Rattle.graphql_reader.specs.declared.type_system.TypeSystemDefinition.TheVariants as d
-use Rattle.language.specs.declared.position.SourcePosition.{SourcePosition}
+use Rattle.language_types.specs.declared.position.SourcePosition.{SourcePosition}
 use Rattle.type_system_report.specs.declared.fault.CoordinateOf.TheVariants as c
 use Rattle.type_system_report.specs.Fault.{CoordinateValue}
 use Rattle.sdl_places.specs.Places.{Written}

@@ -12,8 +12,8 @@ use Rattle.graphql_reader.specs.declared.type_system.TypeBody.TheVariants as b
 use Rattle.graphql_reader.specs.declared.type_system.TypeDefinition.{TypeDefinition}
 use Rattle.graphql_reader.specs.declared.type_system.TypeSystemDefinition.{TypeSystemDefinition}
 use Rattle.graphql_reader.specs.declared.type_system.TypeSystemDefinition.TheVariants as d
-use Rattle.language.specs.declared.position.SourcePosition.{SourcePosition}
-use Rattle.language.specs.Position.{Placed}
+use Rattle.language_types.specs.declared.position.SourcePosition.{SourcePosition}
+use Rattle.language_types.specs.Position.{Placed}
 use Rattle.type_system_report.specs.declared.fault.CoordinateOf.TheVariants as c
 use Rattle.type_system_report.specs.Fault.{CoordinateValue}
 

@@ -7,7 +7,7 @@ ghost use Rattle.sdl_places.specs.Places.{type_place};
 
 use crate::members::{argument_place, field_place, parameter_place, value_place};
 use graphql_reader::type_system::{DirectiveDefinition, TypeDefinition, TypeSystemDefinition};
-use language::position::{SourcePosition, Spanning};
+use language_types::position::{SourcePosition, Spanning};
 use type_system_report::{Coordinate, CoordinateOf};
 
 /// The place of a definition of the type of this name; an extension has none.

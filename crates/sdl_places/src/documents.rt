@@ -1,14 +1,14 @@
 //! The place of a coordinate in a document.
 ghost use Rattle.std.specs.Prelude.{◌≡◌, IfSome, None};
 ghost use Rattle.std.specs.List.{Any};
-ghost use Rattle.language.specs.declared.position.SourcePosition.{SourcePosition};
+ghost use Rattle.language_types.specs.declared.position.SourcePosition.{SourcePosition};
 ghost use Rattle.type_system_report.specs.Fault.{coordinate_value};
 ghost use Rattle.sdl_places.specs.Named.{HasNameAt};
 ghost use Rattle.sdl_places.specs.Places.{definition_place, first_in, place_in, place_within};
 
 use crate::definitions::{definition_place, place_within};
 use graphql_reader::type_system::TypeSystemDefinition;
-use language::position::SourcePosition;
+use language_types::position::SourcePosition;
 use type_system_report::{Coordinate, CoordinateOf};
 
 /// The position of the name at a coordinate, in the first definition or extension that has it. That of a type is in its

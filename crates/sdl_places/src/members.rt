@@ -7,7 +7,7 @@ use crate::definitions::name_place;
 use graphql_reader::type_system::{
     EnumValueDefinition, FieldDefinition, InputValueDefinition, TypeBody,
 };
-use language::position::SourcePosition;
+use language_types::position::SourcePosition;
 
 /// The place of a field of an object, an interface or an input object.
 pub(crate) fn field_place(body: &TypeBody<'_>, name: &str) -> Option<SourcePosition>

@@ -2,10 +2,10 @@
 use crate::fields::{arguments_of, copied};
 use graphql_reader::SourceScalar;
 use graphql_reader::type_system::{DirectiveDefinition, DirectivePlace};
-use language::error::OutOfMemory;
-use language::position::{SourcePosition, Spanning};
-use language::types::Type;
-use language::value::InputValue;
+use language_types::error::OutOfMemory;
+use language_types::position::{SourcePosition, Spanning};
+use language_types::types::Type;
+use language_values::value::InputValue;
 use meta::Argument;
 use schema::error::SchemaError;
 use schema::model::{DirectiveLocation, DirectiveType, SchemaTypeOf};

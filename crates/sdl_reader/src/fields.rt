@@ -3,9 +3,9 @@ use graphql_reader::SourceScalar;
 use graphql_reader::type_system::{
     Description, EnumValueDefinition, FieldDefinition, InputValueDefinition,
 };
-use language::error::OutOfMemory;
-use language::position::Spanning;
-use language::value::InputValue;
+use language_types::error::OutOfMemory;
+use language_types::position::Spanning;
+use language_values::value::InputValue;
 use meta::arguments::Argument;
 use meta::enum_values::EnumValue;
 use meta::fields::Field;

@@ -2,8 +2,8 @@
 use crate::fields::{add_arguments, add_fields, add_names, add_values, copied};
 use graphql_reader::SourceScalar;
 use graphql_reader::type_system::{TypeBody, TypeDefinition};
-use language::error::OutOfMemory;
-use language::types::Type;
+use language_types::error::OutOfMemory;
+use language_types::types::Type;
 use meta::arguments::Argument;
 use meta::enum_values::EnumValue;
 use meta::enums::EnumMetaOf;

@@ -8,10 +8,10 @@ use Rattle.std.specs.Int.{w32}
 use Rattle.std.specs.Float.{float_is_finite, binary64}
 use Rattle.std.specs.Float.Parse.{parse_float}
 use Rattle.std.specs.Str.Parse.{IsNumeral, without_leading_sign, signed_digits_value}
-use Rattle.language.specs.declared.error.CheckError.{CheckError}
-use Rattle.language.specs.declared.error.CheckError.TheVariants as e
-use Rattle.language.specs.declared.value.InputValue.{InputValue, out-InputValue}
-use Rattle.language.specs.declared.value.InputValue.TheOpen as o
+use Rattle.language_types.specs.declared.error.CheckError.{CheckError}
+use Rattle.language_types.specs.declared.error.CheckError.TheVariants as e
+use Rattle.language_values.specs.declared.value.InputValue.{InputValue, out-InputValue}
+use Rattle.language_values.specs.declared.value.InputValue.TheOpen as o
 use Rattle.sdl_scalars.specs.declared.scalar.SourceScalar.{SourceScalar}
 use Rattle.sdl_scalars.specs.declared.scalar.SourceScalar.TheVariants as s
 use Rattle.sdl_scalars.specs.declared.check.SourceCheck.{SourceCheck}

@@ -1,9 +1,9 @@
 -- A check returns the same for the same value.
 use Rattle.std.specs.Prelude.{◌≡◌, Result, Ok, Err}
 use Rattle.std.proofs.Common.{sym, ◌∙◌}
-use Rattle.language.specs.declared.error.CheckError.{CheckError}
-use Rattle.language.specs.declared.error.CheckError.TheVariants as e
-use Rattle.language.specs.declared.value.InputValue.{InputValue}
+use Rattle.language_types.specs.declared.error.CheckError.{CheckError}
+use Rattle.language_types.specs.declared.error.CheckError.TheVariants as e
+use Rattle.language_values.specs.declared.value.InputValue.{InputValue}
 use Rattle.meta.specs.Answers.{SameAnswer}
 use Rattle.sdl_scalars.specs.declared.scalar.SourceScalar.{SourceScalar}
 use Rattle.sdl_scalars.specs.declared.check.SourceCheck.{SourceCheck}

@@ -7,8 +7,8 @@ ghost use Rattle.sdl_scalars.specs.Checks.{Accepts, AcceptsScalar, HasName, IsFi
 ghost use Rattle.sdl_scalars.specs.declared.check.SourceCheck.TheVariants as c;
 
 use crate::scalar::SourceScalar;
-use language::error::CheckError;
-use language::value::InputValue;
+use language_types::error::CheckError;
+use language_values::value::InputValue;
 use meta::check::CheckedScalar;
 use std::alloc::Global;
 

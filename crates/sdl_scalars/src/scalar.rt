@@ -2,7 +2,7 @@
 ghost use Rattle.std.specs.Prelude.{Some};
 ghost use Rattle.sdl_scalars.specs.SourceScalar.{source_text, source_str};
 
-use language::scalar::ScalarValue;
+use language_values::scalar::ScalarValue;
 use std::alloc::AllocError;
 use std::fmt;
 

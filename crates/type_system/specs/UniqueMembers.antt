@@ -1,6 +1,6 @@
 -- Members that stand twice in a union (section 3.8).
 use Rattle.std.specs.Prelude.{ℕ, List}
-use Rattle.language.specs.Names.{is_among}
+use Rattle.language_types.specs.Names.{is_among}
 use Rattle.meta.specs.declared.kinds.MetaTypeOf.{MetaTypeOf}
 use Rattle.schema_validation.specs.Names.{members_of}
 use Rattle.type_system_report.specs.declared.fault.CoordinateOf.TheVariants as c

@@ -2,7 +2,7 @@
 ghost use Rattle.std.specs.Prelude.{◌≡◌, ◌++◌, List, IfOk, OnOk};
 ghost use Rattle.std.specs.List.{flat_map};
 ghost use Rattle.std.specs.List.Sorted.{IsPermutation, IsSorted};
-ghost use Rattle.language.specs.References.{list_copied};
+ghost use Rattle.language_types.specs.References.{list_copied};
 ghost use Rattle.schema.specs.Ordered.{directive_cmp};
 ghost use Rattle.schema_validation.specs.declared.directives.DirectiveType.{DirectiveType};
 ghost use Rattle.type_system.specs.All.{all_faults, directive_faults, member_faults, own_faults, type_faults};

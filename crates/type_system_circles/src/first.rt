@@ -4,7 +4,7 @@ ghost use Rattle.type_system_circles.specs.Graph.{BeginsFirst, IsFirst};
 ghost use Rattle.type_system_circles.specs.declared.graph.Link.{Link};
 
 use crate::graph::Link;
-use language::error::OutOfMemory;
+use language_types::error::OutOfMemory;
 use std::alloc::Global;
 
 /// The links of a circle, beginning with the one from its first node.

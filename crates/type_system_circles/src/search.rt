@@ -7,7 +7,7 @@ ghost use Rattle.type_system_circles.specs.declared.search.Colour.TheVariants.{N
 
 use crate::first::from_first;
 use crate::graph::{Link, Node, edges};
-use language::error::OutOfMemory;
+use language_types::error::OutOfMemory;
 use std::alloc::Global;
 
 /// Links of which each leads to the node of the next, and the last to that of the first.

@@ -1,7 +1,7 @@
 -- A type system whose default values conform to their types (sections 3.6.1, 3.10 and 3.13).
 use Rattle.std.specs.Prelude.{ℕ, List, None}
 use Rattle.std.specs.List.{All}
-use Rattle.language.specs.declared.value.InputValue.{InputValue}
+use Rattle.language_values.specs.declared.value.InputValue.{InputValue}
 use Rattle.meta.specs.Answers.{Answers}
 use Rattle.schema.specs.Catalog.{Catalog}
 use Rattle.literals.specs.Judged.{WrittenFault}

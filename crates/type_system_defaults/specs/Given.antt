@@ -3,8 +3,8 @@ use Rattle.std.specs.Prelude.{ℕ, List, [], ◌++◌, Vec, map, option_map, str
 use Rattle.std.specs.List.{flat_map}
 use Rattle.std.specs.Option.{option_to_list}
 use Rattle.std.specs.declared.alloc.Global.{Global}
-use Rattle.language.specs.Types.{TypeShape, borrowed_shape, shape}
-use Rattle.language.specs.declared.value.InputValue.{InputValue}
+use Rattle.language_types.specs.Types.{TypeShape, borrowed_shape, shape}
+use Rattle.language_values.specs.declared.value.InputValue.{InputValue}
 use Rattle.meta.specs.declared.arguments.Argument.{Argument}
 use Rattle.meta.specs.declared.fields.Field.{Field}
 use Rattle.meta.specs.declared.kinds.MetaTypeOf.{MetaTypeOf}

@@ -1,7 +1,7 @@
 //! The faults of all default values.
 ghost use Rattle.std.specs.Prelude.{◌≡◌, ◌++◌, ◌↔◌, [], List, IfOk, OnOk, map};
 ghost use Rattle.std.specs.List.Sorted.{IsPermutation, IsSorted};
-ghost use Rattle.language.specs.ValuesPrinted.{printed_value};
+ghost use Rattle.language_values.specs.ValuesPrinted.{printed_value};
 ghost use Rattle.schema.specs.Ordered.{directive_cmp};
 ghost use Rattle.schema_validation.specs.declared.directives.DirectiveType.{DirectiveType};
 ghost use Rattle.type_system_defaults.specs.Given.{all_defaults, given_value};
@@ -10,7 +10,7 @@ ghost use Rattle.type_system_defaults.specs.Conforming.{HasConformingDefaults};
 
 use crate::fault::DefaultFault;
 use crate::given::{GivenDefault, add_directives, add_types};
-use language::error::OutOfMemory;
+use language_types::error::OutOfMemory;
 use literals::validate_written_value;
 use meta::check::CheckedScalar;
 use schema::model::SchemaType;

@@ -1,15 +1,15 @@
 //! The default values of a type system, in their order.
 ghost use Rattle.std.specs.Prelude.{◌≡◌, ◌++◌, OnOk};
 ghost use Rattle.std.specs.List.{flat_map};
-ghost use Rattle.language.specs.References.{list_copied};
+ghost use Rattle.language_types.specs.References.{list_copied};
 ghost use Rattle.type_system_report.specs.Fault.{coordinate_value};
 ghost use Rattle.type_system_defaults.specs.Given.{argument_default, default_at, directive_argument_default};
 ghost use Rattle.type_system_defaults.specs.Given.{directive_defaults, field_defaults, given_values};
 ghost use Rattle.type_system_defaults.specs.Given.{input_field_default, type_defaults};
 
-use language::error::OutOfMemory;
-use language::types::BorrowedType;
-use language::value::InputValue;
+use language_types::error::OutOfMemory;
+use language_types::types::BorrowedType;
+use language_values::value::InputValue;
 use schema::meta::{Argument, Field, MetaTypeOf};
 use schema::model::DirectiveType;
 use type_system_report::{Coordinate, CoordinateOf};

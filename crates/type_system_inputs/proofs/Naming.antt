@@ -5,7 +5,7 @@ use Rattle.std.specs.Option.{option_map_or}
 use Rattle.std.proofs.lemmas.List.Elements.{All-weaker}
 use Rattle.std.proofs.lemmas.Option.{slice_get_within}
 use Rattle.fragment_graph.proofs.Lists.{contains_at, contains_get, none_some}
-use Rattle.language.specs.Types.{TypeShape, non_null_named, shape}
+use Rattle.language_types.specs.Types.{TypeShape, non_null_named, shape}
 use Rattle.meta.specs.declared.arguments.Argument.{Argument}
 use Rattle.meta.specs.declared.kinds.MetaTypeOf.{MetaTypeOf}
 use Rattle.meta.specs.Kinds.{input_fields_of, name_of_meta}

@@ -3,8 +3,8 @@ use Rattle.std.proofs.Common.{◌≡◌, ℕ, ◌+◌, ◌<◌, List, ◌∷◌,
 use Rattle.std.specs.Fmt.{HasWritten, IsPlainFormatter}
 use Rattle.std.specs.declared.fmt.Formatter.{Formatter}
 use Rattle.std.proofs.lemmas.Grind.{put_four}
-use Rattle.language.specs.ValuesLeft.{WritesPart}
-use Rattle.language.proofs.PrintLeft.{part_one, part_then}
+use Rattle.language_values.specs.ValuesLeft.{WritesPart}
+use Rattle.language_values.proofs.PrintLeft.{part_one, part_then}
 use Rattle.type_system_inputs.specs.declared.circles.InputCircle.{InputCircle}
 use Rattle.type_system_inputs.specs.declared.circles.RequiredField.{RequiredField}
 use Rattle.type_system_inputs.specs.Told.{circle_text, others_text}

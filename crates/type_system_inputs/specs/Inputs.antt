@@ -1,7 +1,7 @@
 -- Input objects that lead back to themselves by required fields (section 3.10).
 use Rattle.std.specs.Prelude.{◌≡◌, ◌≤◌, ℕ, List, Some, slice_get, string_bytes}
 use Rattle.std.specs.List.{Contains}
-use Rattle.language.specs.Types.{non_null_named, shape}
+use Rattle.language_types.specs.Types.{non_null_named, shape}
 use Rattle.meta.specs.declared.arguments.Argument.{Argument}
 use Rattle.meta.specs.declared.kinds.MetaTypeOf.{MetaTypeOf}
 use Rattle.meta.specs.declared.kinds.TypeKind.TheVariants as k

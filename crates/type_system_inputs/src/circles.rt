@@ -7,7 +7,7 @@ ghost use Rattle.type_system_inputs.specs.Told.{circle_text, circles_told, other
 use crate::graph::graph_of;
 use crate::places::input_places;
 use crate::told::told_circles;
-use language::error::OutOfMemory;
+use language_types::error::OutOfMemory;
 use schema::model::SchemaTypeOf;
 use std::alloc::Global;
 use std::fmt;

@@ -1,14 +1,14 @@
 //! The graph of input objects: its nodes are the types of a list, and its edges the fields that require one.
 ghost use Rattle.std.specs.Prelude.{◌≡◌, ◌↔◌, ◌∷◌, [], IfOk, IsTrue, map};
-ghost use Rattle.language.specs.References.{list_copied};
-ghost use Rattle.language.specs.Types.{shape};
+ghost use Rattle.language_types.specs.References.{list_copied};
+ghost use Rattle.language_types.specs.Types.{shape};
 ghost use Rattle.meta.specs.Kinds.{input_fields_of};
 ghost use Rattle.type_system_inputs.specs.Graph.{edges_from, required_place};
 
 use crate::members::input_fields;
 use crate::places::place_of;
-use language::error::OutOfMemory;
-use language::types::{Type, TypeModifier};
+use language_types::error::OutOfMemory;
+use language_types::types::{Type, TypeModifier};
 use name_tables::map::NameMap;
 use schema::meta::{Argument, MetaTypeOf};
 use std::alloc::Global;

@@ -1,10 +1,10 @@
 //! The places of input objects in a list of types.
 ghost use Rattle.std.specs.Prelude.{◌≡◌, IfOk, OnOk};
-ghost use Rattle.language.specs.References.{list_copied};
+ghost use Rattle.language_types.specs.References.{list_copied};
 ghost use Rattle.name_tables.specs.Maps.{value_of};
 ghost use Rattle.type_system_inputs.specs.Graph.{HasPlaces, IsNoted};
 
-use language::error::OutOfMemory;
+use language_types::error::OutOfMemory;
 use name_tables::map::NameMap;
 use schema::meta::MetaTypeOf;
 use std::alloc::Global;

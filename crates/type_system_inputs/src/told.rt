@@ -1,13 +1,13 @@
 //! What is told of a circle.
 ghost use Rattle.std.specs.Prelude.{◌≡◌, ◌<◌, IfOk, length, map};
 ghost use Rattle.std.specs.List.{All};
-ghost use Rattle.language.specs.References.{list_copied};
+ghost use Rattle.language_types.specs.References.{list_copied};
 ghost use Rattle.type_system_inputs.specs.Graph.{IsFieldLink, IsFieldCircle, field_of};
 ghost use Rattle.type_system_inputs.specs.Told.{circle_fields, circles_told, field_name};
 
 use crate::circles::{InputCircle, RequiredField};
 use crate::members::{input_fields, type_name};
-use language::error::OutOfMemory;
+use language_types::error::OutOfMemory;
 use schema::meta::MetaTypeOf;
 use std::alloc::Global;
 use type_system_circles::Circle;

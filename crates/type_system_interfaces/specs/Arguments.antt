@@ -1,7 +1,7 @@
 -- Look-ups of arguments (section 3.6.1).
 use Rattle.std.specs.Prelude.{ℕ, List, Bool, ◌&&◌, Option, find, is_some, not, string_bytes}
 use Rattle.std.specs.Str.{bytes_eq}
-use Rattle.language.specs.Types.{is_never_null, shape}
+use Rattle.language_types.specs.Types.{is_never_null, shape}
 use Rattle.meta.specs.declared.arguments.Argument.{Argument}
 use Rattle.meta.specs.declared.fields.Field.{Field}
 use Rattle.meta.specs.Arguments.{arguments_of}

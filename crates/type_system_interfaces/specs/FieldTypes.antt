@@ -2,8 +2,8 @@
 use Rattle.std.specs.Prelude.{ℕ, List, Bool, false, not, ◌||◌, reverse}
 use Rattle.std.specs.Option.{option_map_or}
 use Rattle.std.specs.Str.{bytes_eq}
-use Rattle.language.specs.Names.{is_among}
-use Rattle.language.specs.Types.{TypeShape, shape}
+use Rattle.language_types.specs.Names.{is_among}
+use Rattle.language_types.specs.Types.{TypeShape, shape}
 use Rattle.schema.specs.Catalog.{Catalog, type_in}
 use Rattle.schema.specs.Layers.{are_layers_below}
 use Rattle.schema_validation.specs.Names.{interfaces_of, members_of}

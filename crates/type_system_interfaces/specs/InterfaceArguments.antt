@@ -1,7 +1,7 @@
 -- Arguments of an interface's field that a field does not meet (sections 3.6 and 3.7).
 use Rattle.std.specs.Prelude.{List, [], ◌∷◌, Option, Some, None, not, string_bytes}
 use Rattle.std.specs.List.{flat_map}
-use Rattle.language.specs.Types.{shape}
+use Rattle.language_types.specs.Types.{shape}
 use Rattle.meta.specs.declared.arguments.Argument.{Argument}
 use Rattle.meta.specs.Arguments.{arguments_of}
 use Rattle.type_system_report.specs.declared.fault.FaultKindOf.TheVariants as k

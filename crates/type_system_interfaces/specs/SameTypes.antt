@@ -1,9 +1,9 @@
 -- Types that are the same, whatever sizes of lists are expected.
 use Rattle.std.specs.Prelude.{List, [], ◌∷◌, Bool, true, false, ◌&&◌, reverse}
 use Rattle.std.specs.Str.{bytes_eq}
-use Rattle.language.specs.declared.types.TypeModifier.{TypeModifier}
-use Rattle.language.specs.declared.types.TypeModifier.TheVariants as m
-use Rattle.language.specs.Types.{TypeShape}
+use Rattle.language_types.specs.declared.types.TypeModifier.{TypeModifier}
+use Rattle.language_types.specs.declared.types.TypeModifier.TheVariants as m
+use Rattle.language_types.specs.Types.{TypeShape}
 
 -- the same modifiers, read from the outside
 abbrev pub are_layers_same : List TypeModifier → List TypeModifier → Bool

@@ -6,7 +6,7 @@ ghost use Rattle.type_system_interfaces.specs.Pair.{pair_value};
 
 use crate::members::{arguments, is_required};
 use crate::pair::FieldPair;
-use language::error::OutOfMemory;
+use language_types::error::OutOfMemory;
 use schema::meta::named::first_named;
 use schema::meta::{Argument, Field};
 use type_system_report::report::report;

@@ -6,7 +6,7 @@ ghost use Rattle.type_system_report.specs.Fault.{reported};
 use crate::ancestors::report_wrong_ancestors;
 use crate::implemented_types::report_wrong_interfaces;
 use crate::interface_fields::report_unmet_interfaces;
-use language::error::OutOfMemory;
+use language_types::error::OutOfMemory;
 use schema::meta::MetaTypeOf;
 use schema::model::SchemaTypeOf;
 use type_system_report::Fault;

@@ -1,6 +1,6 @@
 //! The type of a field is that of the interface's field, or a subtype (GraphQL, October 2021, sections 3.6 and 3.7).
 ghost use Rattle.std.specs.Prelude.{◌≡◌, ◌++◌, OnOk};
-ghost use Rattle.language.specs.Types.{shape};
+ghost use Rattle.language_types.specs.Types.{shape};
 ghost use Rattle.type_system_report.specs.Fault.{reported};
 ghost use Rattle.type_system_interfaces.specs.FieldTypes.{is_field_type, is_implementer_named, is_member_named, may_stand_for};
 ghost use Rattle.type_system_interfaces.specs.FieldTypes.{wrong_field_type};
@@ -10,8 +10,8 @@ use crate::layers::are_layers_below;
 use crate::listed::is_text_among;
 use crate::members::{interface_names, union_members};
 use crate::pair::FieldPair;
-use language::error::OutOfMemory;
-use language::types::Type;
+use language_types::error::OutOfMemory;
+use language_types::types::Type;
 use schema::meta::MetaTypeOf;
 use schema::model::SchemaTypeOf;
 use type_system_report::report::report;

@@ -6,7 +6,7 @@ ghost use Rattle.type_system_interfaces.specs.ImplementedTypes.{own_interface, w
 
 use crate::listed::is_text_among;
 use crate::members::{interface_names, type_name};
-use language::error::OutOfMemory;
+use language_types::error::OutOfMemory;
 use schema::meta::MetaTypeOf;
 use schema::model::SchemaTypeOf;
 use type_system_report::report::report;

@@ -1,7 +1,7 @@
 //! A field has the arguments of the interface's field, with the same types (GraphQL, October 2021, sections 3.6 and
 //! 3.7).
 ghost use Rattle.std.specs.Prelude.{◌≡◌, ◌++◌, OnOk};
-ghost use Rattle.language.specs.Types.{shape};
+ghost use Rattle.language_types.specs.Types.{shape};
 ghost use Rattle.type_system_report.specs.Fault.{reported};
 ghost use Rattle.type_system_interfaces.specs.InterfaceArguments.{other_type, unmet_argument, unmet_arguments};
 ghost use Rattle.type_system_interfaces.specs.Pair.{pair_value};
@@ -10,8 +10,8 @@ ghost use Rattle.type_system_interfaces.specs.SameTypes.{is_same_type};
 use crate::layers::are_layers_same;
 use crate::members::arguments;
 use crate::pair::FieldPair;
-use language::error::OutOfMemory;
-use language::types::Type;
+use language_types::error::OutOfMemory;
+use language_types::types::Type;
 use schema::meta::Argument;
 use schema::meta::named::first_named;
 use type_system_report::report::report;

@@ -11,7 +11,7 @@ use crate::interface_arguments::report_unmet_arguments;
 use crate::listed::is_text_among;
 use crate::members::{interface_names, type_name};
 use crate::pair::FieldPair;
-use language::error::OutOfMemory;
+use language_types::error::OutOfMemory;
 use schema::meta::{Field, MetaTypeOf};
 use schema::model::SchemaTypeOf;
 use type_system_report::report::report;

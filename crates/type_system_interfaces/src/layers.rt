@@ -3,7 +3,7 @@ ghost use Rattle.std.specs.Prelude.{◌≡◌, reverse};
 ghost use Rattle.schema.specs.Layers.{are_layers_below};
 ghost use Rattle.type_system_interfaces.specs.SameTypes.{are_layers_same};
 
-use language::types::TypeModifier;
+use language_types::types::TypeModifier;
 
 /// Whether the one type is a subtype of the other, by their modifiers and whether their names are.
 pub(crate) fn are_layers_below(

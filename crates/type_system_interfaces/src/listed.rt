@@ -1,6 +1,6 @@
 //! Names in lists.
 ghost use Rattle.std.specs.Prelude.{◌≡◌, map, string_bytes};
-ghost use Rattle.language.specs.Names.{is_among};
+ghost use Rattle.language_types.specs.Names.{is_among};
 
 /// Whether the name is one of the list.
 pub fn is_text_among(texts: &[String], name: &str) -> bool

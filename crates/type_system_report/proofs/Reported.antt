@@ -3,7 +3,7 @@ use Rattle.std.proofs.Common.{◌≡◌, ℕ, ◌+◌, ◌<◌, get_or, List, []
 use Rattle.std.specs.List.{flat_map}
 use Rattle.std.proofs.lemmas.List.{append-nil, take_more}
 use Rattle.std.proofs.lemmas.Grind.{flat_map-append}
-use Rattle.language.specs.References.{list_copied}
+use Rattle.language_types.specs.References.{list_copied}
 
 -- what two calls found, one after the other
 pub reports_both : {A : Type 0} (r a b r₁ r₂ : List A) → r₁ ≡ r ++ a → r₂ ≡ r₁ ++ b → r₂ ≡ r ++ (a ++ b)

@@ -2,8 +2,8 @@
 use Rattle.std.specs.Prelude.{ℕ, List, [], ◌∷◌, Bool, true, false, Vec, map}
 use Rattle.std.specs.declared.alloc.Global.{Global}
 use denote.Ref.{Bor}
-use Rattle.language.specs.declared.types.BorrowedType.{BorrowedType}
-use Rattle.language.specs.Types.{TypeShape, borrowed_shape}
+use Rattle.language_types.specs.declared.types.BorrowedType.{BorrowedType}
+use Rattle.language_types.specs.Types.{TypeShape, borrowed_shape}
 use Rattle.type_system_report.specs.declared.fault.CoordinateOf.{CoordinateOf}
 use Rattle.type_system_report.specs.declared.fault.CoordinateOf.TheVariants as c
 use Rattle.type_system_report.specs.declared.fault.FaultKindOf.{FaultKindOf}

@@ -2,7 +2,7 @@
 use Rattle.std.specs.Prelude.{ℕ, List, ◌++◌, codes}
 use Rattle.language.specs.declared.tree.OperationType.{OperationType}
 use Rattle.language.specs.declared.tree.OperationType.TheVariants as o
-use Rattle.language.specs.Types.{TypeShape, printed}
+use Rattle.language_types.specs.Types.{TypeShape, printed}
 use Rattle.type_system_report.specs.declared.fault.CoordinateOf.TheVariants as c
 use Rattle.type_system_report.specs.declared.fault.FaultKindOf.TheVariants as k
 use Rattle.type_system_report.specs.Fault.{CoordinateValue, FaultValue, KindValue, holder_of, last_name}

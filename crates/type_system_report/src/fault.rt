@@ -1,7 +1,7 @@
 //! Faults: where they are, what they are, and their texts.
 ghost use Rattle.std.specs.Prelude.{◌≡◌, Some};
 ghost use Rattle.std.specs.Fmt.{WritesOnOk};
-ghost use Rattle.language.specs.Types.{borrowed_shape};
+ghost use Rattle.language_types.specs.Types.{borrowed_shape};
 ghost use Rattle.type_system_report.specs.Fault.{coordinate_value, fault_value, holder_of, last_name};
 ghost use Rattle.type_system_report.specs.Texts.{absent_text, coordinate_text, expected_text, fault_text, given_text};
 ghost use Rattle.type_system_report.specs.Texts.{missing_text, once_text, required_text, root_word, text_at};

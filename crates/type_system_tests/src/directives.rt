@@ -1,6 +1,6 @@
 //! Directives that have no location.
 use crate::told::tells;
-use language::error::OutOfMemory;
+use language_types::error::OutOfMemory;
 use samples::build::argument;
 use schema::model::{DirectiveLocation, DirectiveType};
 use std::alloc::Global;

@@ -1,6 +1,6 @@
 //! Enums whose values have the names of other literals.
 use crate::told::tells;
-use language::error::OutOfMemory;
+use language_types::error::OutOfMemory;
 use meta::default_check::DefaultCheck;
 use meta::{EnumMetaOf, EnumValue, MetaType};
 use samples::build::common;

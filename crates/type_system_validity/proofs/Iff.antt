@@ -4,8 +4,8 @@ use Rattle.std.specs.Prelude.{⊤, if◌then◌else◌}
 use Rattle.std.specs.List.{All, flat_map}
 use Rattle.std.specs.Str.{bytes_eq}
 use Rattle.std.proofs.lemmas.List.Elements.{All-cons, All-head, All-nil, All-tail}
-use Rattle.language.proofs.Members.{bytes_eq-same}
-use Rattle.language.specs.Names.{is_among}
+use Rattle.language_values.proofs.Members.{bytes_eq-same}
+use Rattle.language_types.specs.Names.{is_among}
 use Rattle.type_system_interfaces.specs.Entries.{each_entry}
 use Rattle.type_system_report.specs.Fault.{CoordinateValue, FaultValue, KindValue, fault_if}
 use Rattle.type_system_validity.specs.Members.{AreDistinct}

@@ -1,7 +1,7 @@
 -- The members of a type have no fault if and only if they are as they should be.
 use Rattle.std.proofs.Common.{◌≡◌, ℕ, zero, suc, ◌<◌, ◌==◌, length, List, [], ◌∷◌, Bool, true, false, ◌&&◌, ap, refl, ◌∙◌, arith, string_bytes}
 use Rattle.std.specs.List.{All, Any, flat_map, list_all}
-use Rattle.language.specs.Types.{shape}
+use Rattle.language_types.specs.Types.{shape}
 use Rattle.meta.specs.declared.arguments.Argument.{Argument}
 use Rattle.meta.specs.declared.fields.Field.{Field}
 use Rattle.meta.specs.declared.kinds.MetaTypeOf.{MetaTypeOf}

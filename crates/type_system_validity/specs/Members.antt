@@ -1,7 +1,7 @@
 -- Members that types have, and how they are (sections 3.6 to 3.10).
 use Rattle.std.specs.Prelude.{◌≡◌, ⊤, ℕ, ◌<◌, List, length, true, false, Some, string_bytes}
 use Rattle.std.specs.List.{All, Any}
-use Rattle.language.specs.Types.{shape}
+use Rattle.language_types.specs.Types.{shape}
 use Rattle.meta.specs.declared.fields.Field.{Field}
 use Rattle.meta.specs.declared.kinds.MetaTypeOf.{MetaTypeOf}
 use Rattle.meta.specs.declared.kinds.MetaTypeOf.TheVariants as m

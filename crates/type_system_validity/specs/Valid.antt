@@ -1,7 +1,7 @@
 -- Valid type systems (section 3).
 use Rattle.std.specs.Prelude.{ℕ, ◌<◌, List, length}
 use Rattle.std.specs.List.{All}
-use Rattle.language.specs.declared.value.InputValue.{InputValue}
+use Rattle.language_values.specs.declared.value.InputValue.{InputValue}
 use Rattle.meta.specs.Answers.{Answers}
 use Rattle.meta.specs.declared.kinds.MetaTypeOf.{MetaTypeOf}
 use Rattle.schema.specs.Catalog.{Catalog}

@@ -1,6 +1,6 @@
 //! Whether a schema is a valid type system (GraphQL, October 2021, section 3).
 ghost use Rattle.std.specs.Prelude.{◌≡◌, ◌↔◌, IfOk, IsTrue};
-ghost use Rattle.language.specs.ValuesPrinted.{printed_value};
+ghost use Rattle.language_values.specs.ValuesPrinted.{printed_value};
 ghost use Rattle.type_system_defaults.specs.Conforming.{HasConformingDefaults};
 ghost use Rattle.type_system_validity.specs.Valid.{HasValidDefinitions, IsValidTypeSystem};
 

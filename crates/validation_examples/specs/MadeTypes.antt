@@ -1,6 +1,6 @@
 -- What is said of a value against a type that a schema makes.
 use Rattle.std.specs.Prelude.{◌≡◌, ℕ, List, Option, Some, None, codes, unwrap_or}
-use Rattle.language.specs.declared.value.InputValue.{InputValue}
+use Rattle.language_values.specs.declared.value.InputValue.{InputValue}
 use Rattle.meta.specs.Answers.{Answers}
 use Rattle.schema.specs.Catalog.{Catalog}
 use Rattle.schema.specs.Wrapped.{WrappedMeta}

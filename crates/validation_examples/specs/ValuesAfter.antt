@@ -1,11 +1,11 @@
 -- What is said of the values of variables once their document was validated.
 use Rattle.std.specs.Prelude.{◌≡◌, ◌⊎◌, ℕ, List, ◌∷◌, Option, Some, None}
-use Rattle.language.specs.declared.position.Span.{Span}
-use Rattle.language.specs.declared.position.Spanning.{Spanning}
+use Rattle.language_types.specs.declared.position.Span.{Span}
+use Rattle.language_types.specs.declared.position.Spanning.{Spanning}
 use Rattle.language.specs.declared.tree.Definition.{Definition}
 use Rattle.language.specs.declared.tree.Definition.TheVariants as definition
 use Rattle.language.specs.declared.tree.Operation.{Operation}
-use Rattle.language.specs.declared.value.InputValue.{InputValue}
+use Rattle.language_values.specs.declared.value.InputValue.{InputValue}
 use Rattle.meta.specs.Answers.{Answers}
 use Rattle.schema.specs.Catalog.{Catalog}
 use Rattle.events.specs.Typing.{untyped}

@@ -1,8 +1,8 @@
 //! Values against types that a schema makes.
 
 ghost use Rattle.std.specs.Prelude.{IfOk, string_bytes};
-ghost use Rattle.language.specs.Types.{shape};
-ghost use Rattle.language.specs.ValuesPrinted.{printed_value};
+ghost use Rattle.language_types.specs.Types.{shape};
+ghost use Rattle.language_values.specs.ValuesPrinted.{printed_value};
 ghost use Rattle.literals.specs.Judged.{written_type};
 ghost use Rattle.validation_examples.specs.MadeTypes.{SaysFault};
 

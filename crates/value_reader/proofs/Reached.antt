@@ -1,6 +1,6 @@
 -- What holds while a value is read: the tokens so far lead to what is begun, and spell it.
 use Rattle.std.proofs.Common.{◌≡◌, suc, true, false, List, [], ◌∷◌, ◌++◌, Ok, Err, append_assoc, append-nil, refl, sym, ap, subst, ◌∙◌}
-use Rattle.language.specs.declared.position.SourcePosition.{SourcePosition}
+use Rattle.language_types.specs.declared.position.SourcePosition.{SourcePosition}
 use Rattle.graphql_lexer.specs.Lexemes.{Lexeme}
 use Rattle.graphql_lexer.specs.Lexical as token
 use Rattle.graphql_lexer.specs.StringValues.{nothing}

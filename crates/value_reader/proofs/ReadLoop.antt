@@ -1,10 +1,10 @@
 -- One turn of the loop that reads a value.
 use Rattle.std.proofs.Common.{◌≡◌, ◌<◌, inl, inr, Bool, true, false, refl, List, [], ◌∷◌, Option, Some, None, Vec, length, map, reverse, sym, ap, subst, arith}
 use Rattle.std.specs.declared.alloc.Global.{Global}
-use Rattle.language.specs.declared.position.SourcePosition.{SourcePosition}
-use Rattle.language.specs.declared.position.Span.{Span}
-use Rattle.language.specs.declared.position.Spanning.{Spanning}
-use Rattle.language.specs.declared.value.InputValue.{InputValue}
+use Rattle.language_types.specs.declared.position.SourcePosition.{SourcePosition}
+use Rattle.language_types.specs.declared.position.Span.{Span}
+use Rattle.language_types.specs.declared.position.Spanning.{Spanning}
+use Rattle.language_values.specs.declared.value.InputValue.{InputValue}
 use Rattle.sdl_scalars.specs.declared.scalar.SourceScalar.{SourceScalar}
 use Rattle.graphql_lexer.specs.Ahead.{ahead_of, behind, left}
 use Rattle.graphql_lexer.specs.Lexemes.{Lexeme}

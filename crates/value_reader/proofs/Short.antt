@@ -1,7 +1,7 @@
 -- A value of one token, and a variable, in the words of the machine.
 use Rattle.std.proofs.Common.{◌≡◌, ◌≢◌, ℕ, true, false, List, [], ◌∷◌, Option, Some, None, refl, sym, ap, subst, ◌∙◌}
-use Rattle.language.specs.declared.position.SourcePosition.{SourcePosition}
-use Rattle.language.specs.declared.position.Span.{Span}
+use Rattle.language_types.specs.declared.position.SourcePosition.{SourcePosition}
+use Rattle.language_types.specs.declared.position.Span.{Span}
 use Rattle.graphql_lexer.specs.Ahead.{ahead_of, behind, left, IsFaultAt}
 use Rattle.graphql_lexer.specs.Lexemes.{Lexeme, is_last}
 use Rattle.graphql_lexer.specs.Lexical as token

@@ -1,11 +1,11 @@
 -- What a list and an object stand for, in one pass over what they hold.
 use Rattle.std.proofs.Common.{◌≡◌, ◌∙◌, List, [], ◌∷◌, map, Vec, String, refl, ap, sym}
 use Rattle.std.specs.declared.alloc.Global.{Global}
-use Rattle.language.specs.declared.position.Span.{Span}
-use Rattle.language.specs.declared.position.Spanning.{Spanning}
-use Rattle.language.specs.declared.value.InputValue.{InputValue, fold-roll-InputValue}
-use Rattle.language.specs.declared.value.InputValue.TheVariants as v
-use Rattle.language.specs.declared.value.InputValue.TheOpen.{InputValue-F}
+use Rattle.language_types.specs.declared.position.Span.{Span}
+use Rattle.language_types.specs.declared.position.Spanning.{Spanning}
+use Rattle.language_values.specs.declared.value.InputValue.{InputValue, fold-roll-InputValue}
+use Rattle.language_values.specs.declared.value.InputValue.TheVariants as v
+use Rattle.language_values.specs.declared.value.InputValue.TheOpen.{InputValue-F}
 use Rattle.sdl_scalars.specs.declared.scalar.SourceScalar.{SourceScalar}
 use Rattle.value_reader.specs.Machine.{items_of, fields_of}
 use Rattle.value_reader.specs.Seen.{Spanless, spanned, entry_spanned, value_layer, content_seen, values_seen, entries_seen}

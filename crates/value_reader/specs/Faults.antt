@@ -1,7 +1,7 @@
 -- The first token with which no value goes on, and the place in it that the error tells.
 use Rattle.std.specs.Prelude.{◌≡◌, ◌⊎◌, ◌+◌, ◌-◌, ◌^◌, ℕ, min, List, [], ◌∷◌, ◌++◌}
 use denote.Ref.{Bor}
-use Rattle.language.specs.declared.position.SourcePosition.{SourcePosition}
+use Rattle.language_types.specs.declared.position.SourcePosition.{SourcePosition}
 use Rattle.graphql_lexer.specs.Lexemes.{Lexeme}
 use Rattle.graphql_lexer.specs.Lexical as token
 use Rattle.graphql_lexer.specs.StringFaults.{IsFaultPlace}

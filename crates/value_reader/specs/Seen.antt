@@ -2,11 +2,11 @@
 use Rattle.std.specs.Prelude.{◌≡◌, ◌≢◌, ℕ, Bool, true, false, List, map, reverse, Option, Some, None, Vec, String}
 use Rattle.std.specs.Prelude.{string_bytes}
 use Rattle.std.specs.declared.alloc.Global.{Global}
-use Rattle.language.specs.declared.position.SourcePosition.{SourcePosition}
-use Rattle.language.specs.declared.position.Span.{Span}
-use Rattle.language.specs.declared.position.Spanning.{Spanning}
-use Rattle.language.specs.declared.value.InputValue.{InputValue, fold-InputValue}
-use Rattle.language.specs.declared.value.InputValue.TheOpen.{InputValue-F}
+use Rattle.language_types.specs.declared.position.SourcePosition.{SourcePosition}
+use Rattle.language_types.specs.declared.position.Span.{Span}
+use Rattle.language_types.specs.declared.position.Spanning.{Spanning}
+use Rattle.language_values.specs.declared.value.InputValue.{InputValue, fold-InputValue}
+use Rattle.language_values.specs.declared.value.InputValue.TheOpen.{InputValue-F}
 use Rattle.sdl_scalars.specs.declared.scalar.SourceScalar.{SourceScalar}
 use Rattle.sdl_scalars.specs.declared.scalar.SourceScalar.TheVariants as scalar
 use Rattle.graphql_lexer.specs.Lexemes.{Lexeme}

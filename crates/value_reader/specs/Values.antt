@@ -1,6 +1,6 @@
 -- The values of a text (GraphQL, October 2021, section 2.9), each with its span. Texts are the bytes of UTF-8.
 use Rattle.std.specs.Prelude.{ℕ, Bool, List}
-use Rattle.language.specs.declared.position.Span.{Span}
+use Rattle.language_types.specs.declared.position.Span.{Span}
 
 -- a value that holds no other: numbers as they are written, and what a string stands for
 pub data Plain : Type 0 where

@@ -5,9 +5,9 @@ ghost use Rattle.value_reader.specs.Seen.{begun_seen, stack_seen, value_seen, va
 ghost use Rattle.value_reader.specs.Values.{list, object};
 
 use graphql_lexer::error::ReadError;
-use language::error::OutOfMemory;
-use language::position::{SourcePosition, Span, Spanning};
-use language::value::InputValue;
+use language_types::error::OutOfMemory;
+use language_types::position::{SourcePosition, Span, Spanning};
+use language_values::value::InputValue;
 use sdl_scalars::scalar::SourceScalar;
 
 pub(crate) type Value = InputValue<SourceScalar>;

@@ -1,6 +1,6 @@
 //! Values of one token (GraphQL, October 2021, sections 2.9.1 to 2.9.6).
 ghost use Rattle.std.specs.Prelude.{◌≡◌, IfOk, IfErr, string_bytes};
-ghost use Rattle.language.specs.declared.position.Span.{Span};
+ghost use Rattle.language_types.specs.declared.position.Span.{Span};
 ghost use Rattle.graphql_lexer.specs.Ahead.{ahead_of};
 ghost use Rattle.graphql_lexer.specs.Lexical as token;
 ghost use Rattle.value_reader.specs.Faults.{IsTextRefusal};
@@ -15,9 +15,9 @@ use crate::strings::text_ahead;
 use graphql_lexer::error::ReadError;
 use graphql_lexer::lexer::Token;
 use graphql_lexer::tokens::Tokens;
-use language::error::OutOfMemory;
-use language::position::Spanning;
-use language::value::InputValue;
+use language_types::error::OutOfMemory;
+use language_types::position::Spanning;
+use language_values::value::InputValue;
 use sdl_scalars::scalar::SourceScalar;
 use std::alloc::Global;
 

@@ -17,8 +17,8 @@ use crate::steps::{step, variable_ahead};
 use graphql_lexer::error::ReadError;
 use graphql_lexer::lexer::{Punctuator, Token};
 use graphql_lexer::tokens::Tokens;
-use language::position::Spanning;
-use language::value::InputValue;
+use language_types::position::Spanning;
+use language_values::value::InputValue;
 use sdl_scalars::scalar::SourceScalar;
 
 /// Reads a value. The lists and objects that are begun stand on a list in memory, so no depth is too deep for the

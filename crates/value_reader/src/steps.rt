@@ -14,8 +14,8 @@ use crate::rules::{Rules, Variables};
 use graphql_lexer::error::ReadError;
 use graphql_lexer::lexer::Punctuator;
 use graphql_lexer::tokens::Tokens;
-use language::position::{SourcePosition, Span, Spanning};
-use language::value::InputValue;
+use language_types::position::{SourcePosition, Span, Spanning};
+use language_values::value::InputValue;
 
 /// What the next token leads to, where these parts are begun.
 pub(crate) fn step<'a>(

@@ -8,7 +8,7 @@ use graphql_lexer::error::{Found, ReadError, SyntaxError, SyntaxFault};
 use graphql_lexer::lexer::Token;
 use graphql_lexer::strings::{StringError, block_string_value, string_value};
 use graphql_lexer::tokens::Tokens;
-use language::position::SourcePosition;
+use language_types::position::SourcePosition;
 
 /// Reads a string or a block string.
 ///

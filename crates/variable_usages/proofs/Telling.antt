@@ -12,7 +12,7 @@ use Rattle.fragment_graph.proofs.NamePaths.{get_map}
 use Rattle.operation_scopes.specs.Searches.{inside}
 use Rattle.variable_usages.specs.declared.uses.VariableUse.{VariableUse}
 use Rattle.variable_usages.specs.InReachUses.{InTurn, AllUses, kept_uses}
-use Rattle.language.specs.declared.position.SourcePosition.{SourcePosition}
+use Rattle.language_types.specs.declared.position.SourcePosition.{SourcePosition}
 use Rattle.std.proofs.lemmas.Grind.{flat_map-append}
 use Rattle.variable_usages.specs.Undefined.{TellsUndefined, Undefined, told_undefined}
 use Rattle.variable_usages.specs.Uses.{Use, Uses, definition_uses, use_of}

@@ -4,8 +4,8 @@ use Rattle.std.specs.Prelude.{Some, None}
 use Rattle.std.specs.List.{flat_map}
 use Rattle.std.specs.Option.{option_map_or}
 use Rattle.std.proofs.lemmas.List.Folds.{flat_map-map}
-use Rattle.language.specs.declared.position.Span.{Span}
-use Rattle.language.specs.declared.position.Spanning.{Spanning}
+use Rattle.language_types.specs.declared.position.Span.{Span}
+use Rattle.language_types.specs.declared.position.Spanning.{Spanning}
 use Rattle.language.specs.declared.tree.Field.{Field, fold_out-Field, out-Field, fold-Field, map-Field}
 use Rattle.language.specs.declared.tree.InlineFragment.{InlineFragment, fold_out-InlineFragment, out-InlineFragment, fold-InlineFragment}
 use Rattle.language.specs.declared.tree.FragmentSpread.{FragmentSpread}

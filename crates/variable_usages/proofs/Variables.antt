@@ -9,9 +9,9 @@ use Rattle.std.proofs.lemmas.List.Elements.{Contains-append_left, Contains-push,
 use Rattle.operation_scopes.proofs.Once.{once_push}
 use Rattle.std.proofs.lemmas.List.{map-append}
 use Rattle.variable_usages.specs.declared.uses.VariableUse.{VariableUse}
-use Rattle.language.specs.Position.{index_of}
-use Rattle.language.specs.declared.position.Span.{Span}
-use Rattle.language.specs.declared.position.Spanning.{Spanning}
+use Rattle.language_types.specs.Position.{index_of}
+use Rattle.language_types.specs.declared.position.Span.{Span}
+use Rattle.language_types.specs.declared.position.Spanning.{Spanning}
 use Rattle.language.specs.declared.tree.Operation.{Operation}
 use Rattle.language.specs.declared.tree.VariableDefinition.{VariableDefinition}
 use Rattle.variable_usages.specs.Uses.{Uses, use_of}

@@ -6,11 +6,11 @@ use Rattle.std.specs.Option.{option_map_or}
 use Rattle.std.specs.Ordering.{nat_cmp}
 use Rattle.std.specs.Str.{bytes_eq}
 use denote.Ref.{Bor}
-use Rattle.language.specs.declared.position.Span.{Span}
-use Rattle.language.specs.declared.position.Spanning.{Spanning}
+use Rattle.language_types.specs.declared.position.Span.{Span}
+use Rattle.language_types.specs.declared.position.Spanning.{Spanning}
 use Rattle.language.specs.declared.tree.Operation.{Operation}
 use Rattle.language.specs.declared.tree.VariableDefinition.{VariableDefinition}
-pub use Rattle.language.specs.Names.{is_among}
+pub use Rattle.language_types.specs.Names.{is_among}
 use Rattle.variable_usages.specs.declared.uses.VariableUse.{VariableUse}
 
 abbrev pub has_name : BTreeSet (Bor (List ℕ)) → List ℕ → Bool

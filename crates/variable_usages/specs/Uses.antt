@@ -4,10 +4,10 @@ use Rattle.std.specs.List.{flat_map}
 use Rattle.std.specs.Option.{option_map_or}
 use Rattle.std.specs.declared.alloc.Global.{Global}
 use denote.Ref.{Bor}
-use Rattle.language.specs.Values.{variables_of}
-use Rattle.language.specs.declared.position.SourcePosition.{SourcePosition}
-use Rattle.language.specs.declared.position.Span.{Span}
-use Rattle.language.specs.declared.position.Spanning.{Spanning}
+use Rattle.language_values.specs.Values.{variables_of}
+use Rattle.language_types.specs.declared.position.SourcePosition.{SourcePosition}
+use Rattle.language_types.specs.declared.position.Span.{Span}
+use Rattle.language_types.specs.declared.position.Spanning.{Spanning}
 use Rattle.language.specs.declared.tree.Arguments.{Arguments}
 use Rattle.language.specs.declared.tree.Definition.{Definition}
 use Rattle.language.specs.declared.tree.Definition.TheVariants as definition
@@ -16,7 +16,7 @@ use Rattle.language.specs.declared.tree.Selection.{Selection, fold-Selection}
 use Rattle.language.specs.declared.tree.Selection.TheOpen as open_tree
 use Rattle.language.specs.declared.tree.VariableDefinition.{VariableDefinition}
 use Rattle.language.specs.declared.tree.VariableDefinitions.{VariableDefinitions}
-use Rattle.language.specs.declared.value.InputValue.{InputValue}
+use Rattle.language_values.specs.declared.value.InputValue.{InputValue}
 use Rattle.variable_usages.specs.declared.uses.VariableUse.{VariableUse}
 
 -- The name of a variable, and the start of the argument value that contains it.

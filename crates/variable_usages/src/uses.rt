@@ -1,12 +1,12 @@
 //! The variables that a definition uses in arguments of fields and of directives.
 ghost use Rattle.std.specs.Prelude.{◌≡◌, ◌++◌, ℕ, List, Option, IfOk, OnOk, map};
-ghost use Rattle.language.specs.References.{list_copied};
+ghost use Rattle.language_types.specs.References.{list_copied};
 ghost use Rattle.std.specs.List.{flat_map};
 ghost use Rattle.fragment_graph.specs.Preorder.{set_inside};
 ghost use Rattle.fragment_reach.specs.Reach.{operation};
 ghost use Rattle.operation_scopes.specs.Index.{IsIndexOf};
 ghost use Rattle.operation_scopes.specs.Places.{places_of};
-ghost use Rattle.language.specs.Values.{variables_of};
+ghost use Rattle.language_values.specs.Values.{variables_of};
 ghost use Rattle.operation_scopes.specs.Searches.{IsReady};
 ghost use Rattle.variable_usages.specs.InReachUses.{AllUses, UsedIn, kept_uses};
 ghost use Rattle.variable_usages.specs.Uses.{AddsUses, argument_uses, arguments_uses, at_place, definition_uses};

@@ -6,13 +6,13 @@ use Rattle.std.specs.Prelude.{String, Vec}
 use Rattle.std.specs.declared.alloc.Global.{Global}
 use Rattle.std.specs.List.{All, flat_map}
 use denote.Ref.{Bor}
-use Rattle.language.specs.declared.position.Span.{Span}
-use Rattle.language.specs.declared.position.Spanning.{Spanning}
-use Rattle.language.specs.declared.value.InputValue.{InputValue}
-use Rattle.language.specs.declared.types.BorrowedType.{BorrowedType}
-use Rattle.language.specs.Types.{borrowed_shape, shape}
-use Rattle.language.specs.Values.{Entry, last_value}
-use Rattle.language.specs.ValuesPrinted.{printed_value}
+use Rattle.language_types.specs.declared.position.Span.{Span}
+use Rattle.language_types.specs.declared.position.Spanning.{Spanning}
+use Rattle.language_values.specs.declared.value.InputValue.{InputValue}
+use Rattle.language_types.specs.declared.types.BorrowedType.{BorrowedType}
+use Rattle.language_types.specs.Types.{borrowed_shape, shape}
+use Rattle.language_values.specs.Values.{Entry, last_value}
+use Rattle.language_values.specs.ValuesPrinted.{printed_value}
 use Rattle.meta.specs.Answers.{Answers}
 use Rattle.meta.specs.Kept.{input_object_check}
 use Rattle.meta.specs.declared.arguments.Argument.{Argument}

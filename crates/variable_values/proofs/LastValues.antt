@@ -3,8 +3,8 @@ use Rattle.std.proofs.Common.{◌≡◌, ℕ, ◌-◌, ◌<◌, List, [], ◌∷
 use Rattle.std.specs.Prelude.{Contains, find, option_map}
 use Rattle.std.specs.Str.{bytes_eq}
 use Rattle.std.proofs.lemmas.List.{get_or-reverse, length-reverse}
-use Rattle.language.specs.Values.{Entry, last_value}
-use Rattle.language.specs.Each.{Each}
+use Rattle.language_values.specs.Values.{Entry, last_value}
+use Rattle.language_values.specs.Each.{Each}
 use Rattle.schema_validation.proofs.Finds.{found-among}
 
 Contains-reversed : {A : Type 0} (xs : List A) (x : A) → Contains (reverse xs) x → Contains xs x

@@ -2,11 +2,11 @@
 use Rattle.std.proofs.Common.{◌≡◌, ℕ, List, [], ◌∷◌, ◌++◌, Option, None, map, string_bytes, refl, ap, sym, ◌∙◌, subst}
 use Rattle.std.specs.Prelude.{Vec}
 use Rattle.std.specs.declared.alloc.Global.{Global}
-use Rattle.language.specs.declared.value.InputValue.{InputValue, out-InputValue, out-roll-InputValue, roll-InputValue, roll-out-InputValue}
-use Rattle.language.specs.declared.value.InputValue.TheOpen as v
-use Rattle.language.specs.declared.value.InputValue.TheVariants as variant
-use Rattle.language.specs.Values.{Entry}
-use Rattle.language.specs.ValuesPrinted.{printed_value}
+use Rattle.language_values.specs.declared.value.InputValue.{InputValue, out-InputValue, out-roll-InputValue, roll-InputValue, roll-out-InputValue}
+use Rattle.language_values.specs.declared.value.InputValue.TheOpen as v
+use Rattle.language_values.specs.declared.value.InputValue.TheVariants as variant
+use Rattle.language_values.specs.Values.{Entry}
+use Rattle.language_values.specs.ValuesPrinted.{printed_value}
 use Rattle.meta.specs.Answers.{Answers}
 use Rattle.meta.specs.Kept.{input_object_check}
 use Rattle.meta.specs.declared.arguments.Argument.{Argument}

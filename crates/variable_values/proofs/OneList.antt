@@ -1,18 +1,18 @@
 -- A value has one list of faults against a type.
 use Rattle.std.proofs.Common.{◌≡◌, ℕ, ◌+◌, List, [], ◌∷◌, ◌++◌, Option, Some, None, map, length, reverse, string_bytes, refl, ap, sym, ◌∙◌, inl, inr, subst}
 use Rattle.std.proofs.Math.Path.{transport}
-use Rattle.language.specs.declared.position.Span.{Span}
-use Rattle.language.specs.declared.position.Spanning.{Spanning}
-use Rattle.language.specs.declared.types.TypeModifier.{TypeModifier}
-use Rattle.language.specs.declared.types.TypeModifier.TheVariants as m
-use Rattle.language.specs.declared.value.InputValue.{InputValue, roll-InputValue}
-use Rattle.language.specs.declared.value.InputValue.TheOpen as v
-use Rattle.language.specs.declared.value.InputValue.TheVariants as variant
-use Rattle.language.specs.Each.{Each}
-use Rattle.language.specs.Types.{TypeShape, shape}
-use Rattle.language.specs.Values.{Entry, last_value}
-use Rattle.language.specs.ValuesPrinted.{printed_value}
-use Rattle.language.proofs.Induction.{value_induction}
+use Rattle.language_types.specs.declared.position.Span.{Span}
+use Rattle.language_types.specs.declared.position.Spanning.{Spanning}
+use Rattle.language_types.specs.declared.types.TypeModifier.{TypeModifier}
+use Rattle.language_types.specs.declared.types.TypeModifier.TheVariants as m
+use Rattle.language_values.specs.declared.value.InputValue.{InputValue, roll-InputValue}
+use Rattle.language_values.specs.declared.value.InputValue.TheOpen as v
+use Rattle.language_values.specs.declared.value.InputValue.TheVariants as variant
+use Rattle.language_values.specs.Each.{Each}
+use Rattle.language_types.specs.Types.{TypeShape, shape}
+use Rattle.language_values.specs.Values.{Entry, last_value}
+use Rattle.language_values.specs.ValuesPrinted.{printed_value}
+use Rattle.language_values.proofs.ValueInduction.{value_induction}
 use Rattle.meta.specs.Answers.{Answers}
 use Rattle.meta.specs.Kept.{input_object_check, scalar_check}
 use Rattle.meta.specs.declared.arguments.Argument.{Argument}

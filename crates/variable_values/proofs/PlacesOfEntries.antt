@@ -7,7 +7,7 @@ use Rattle.std.specs.BTreeMap.{BTreeMap, UpdatesBy}
 use Rattle.std.specs.Cmp.Lexicographic.{slice_cmp}
 use Rattle.std.specs.Ordering.{nat_cmp}
 use Rattle.std.proofs.lemmas.Map.Text.{btree_map_updates_str}
-use Rattle.language.specs.Values.{Entry, last_value}
+use Rattle.language_values.specs.Values.{Entry, last_value}
 use Rattle.variable_values.specs.Entries.{IsPlaceOf, place_in}
 
 after_one : {A B : Type 0} (f : A → B) (p : A → Bool) (e : A) (es : List A) → option_map f (find p (e ∷ es)) ≡ cond (p e) (Some (f e)) (option_map f (find p es))

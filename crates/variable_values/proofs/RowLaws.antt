@@ -7,19 +7,19 @@ use Rattle.variable_values.specs.Inputs.{is_input_in}
 use Rattle.std.proofs.Common.{◌≡◌, false, ℕ, ◌-◌, ◌+◌, ◌<◌, List, [], ◌∷◌, ◌++◌, Option, Some, None, true, length, take, get_or, reverse, append_assoc, refl, ap, sym, ◌∙◌, subst, arith}
 use Rattle.std.specs.Prelude.{Vec, if◌then◌else◌, is_some, slice_get}
 use Rattle.std.specs.declared.alloc.Global.{Global}
-use Rattle.language.specs.declared.position.Span.{Span}
-use Rattle.language.specs.declared.position.Spanning.{Spanning}
+use Rattle.language_types.specs.declared.position.Span.{Span}
+use Rattle.language_types.specs.declared.position.Spanning.{Spanning}
 use Rattle.std.proofs.Math.Path.{transport}
 use Rattle.std.proofs.Math.Seq.{take-length}
 use Rattle.std.proofs.lemmas.List.{reverse-append, reverse-reverse, length-take, take_more}
 use Rattle.std.proofs.lemmas.Option.{slice_get_within, get_or_from_slice_get, slice_get-get_or}
-use Rattle.language.specs.declared.types.TypeModifier.{TypeModifier}
-use Rattle.language.specs.declared.types.TypeModifier.TheVariants as m
-use Rattle.language.specs.declared.value.InputValue.{InputValue, roll-InputValue, out-InputValue, roll-out-InputValue, out-roll-InputValue}
-use Rattle.language.specs.declared.value.InputValue.TheVariants as variant
-use Rattle.language.specs.declared.value.InputValue.TheOpen as v
-use Rattle.language.specs.Types.{TypeShape, wrapped_by, inner_of, outermost, printed}
-use Rattle.language.specs.Values.{list_items, items_layer}
+use Rattle.language_types.specs.declared.types.TypeModifier.{TypeModifier}
+use Rattle.language_types.specs.declared.types.TypeModifier.TheVariants as m
+use Rattle.language_values.specs.declared.value.InputValue.{InputValue, roll-InputValue, out-InputValue, roll-out-InputValue, out-roll-InputValue}
+use Rattle.language_values.specs.declared.value.InputValue.TheVariants as variant
+use Rattle.language_values.specs.declared.value.InputValue.TheOpen as v
+use Rattle.language_types.specs.Types.{TypeShape, wrapped_by, inner_of, outermost, printed}
+use Rattle.language_values.specs.Values.{list_items, items_layer}
 use Rattle.meta.specs.Answers.{Answers}
 use Rattle.meta.specs.declared.kinds.MetaTypeOf.{MetaTypeOf}
 use Rattle.schema.specs.Catalog.{Catalog, type_in}

@@ -1,13 +1,13 @@
 -- Which checks the rows ask of a value and of the values inside, for a name with modifiers around it, outermost first.
 use Rattle.std.specs.Prelude.{◌≡◌, ℕ, List, [], ◌∷◌, reverse, Contains, Option, Some, None, string_bytes}
-use Rattle.language.specs.declared.position.Span.{Span}
-use Rattle.language.specs.declared.position.Spanning.{Spanning}
-use Rattle.language.specs.declared.types.TypeModifier.{TypeModifier}
-use Rattle.language.specs.declared.types.TypeModifier.TheVariants as m
-use Rattle.language.specs.declared.value.InputValue.{InputValue}
-use Rattle.language.specs.declared.value.InputValue.TheVariants as variant
-use Rattle.language.specs.Types.{TypeShape, shape}
-use Rattle.language.specs.Values.{Entry, last_value, list_items, object_entries}
+use Rattle.language_types.specs.declared.position.Span.{Span}
+use Rattle.language_types.specs.declared.position.Spanning.{Spanning}
+use Rattle.language_types.specs.declared.types.TypeModifier.{TypeModifier}
+use Rattle.language_types.specs.declared.types.TypeModifier.TheVariants as m
+use Rattle.language_values.specs.declared.value.InputValue.{InputValue}
+use Rattle.language_values.specs.declared.value.InputValue.TheVariants as variant
+use Rattle.language_types.specs.Types.{TypeShape, shape}
+use Rattle.language_values.specs.Values.{Entry, last_value, list_items, object_entries}
 use Rattle.meta.specs.Answers.{Answers, Accepts}
 use Rattle.meta.specs.Kept.{scalar_check, input_object_check}
 use Rattle.meta.specs.declared.arguments.Argument.{Argument}

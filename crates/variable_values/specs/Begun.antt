@@ -2,10 +2,10 @@
 use Rattle.std.specs.Prelude.{◌≡◌, ◌⊎◌, ℕ, List, [], ◌∷◌, ◌++◌, length, reverse, drop, map, Option, Some, None, String}
 use Rattle.std.specs.Prelude.{Vec, string_bytes, true}
 use Rattle.std.specs.declared.alloc.Global.{Global}
-use Rattle.language.specs.declared.value.InputValue.{InputValue}
-use Rattle.language.specs.Types.{borrowed_shape, shape}
-use Rattle.language.specs.Values.{Entry, last_value}
-use Rattle.language.specs.ValuesPrinted.{printed_value}
+use Rattle.language_values.specs.declared.value.InputValue.{InputValue}
+use Rattle.language_types.specs.Types.{borrowed_shape, shape}
+use Rattle.language_values.specs.Values.{Entry, last_value}
+use Rattle.language_values.specs.ValuesPrinted.{printed_value}
 use Rattle.meta.specs.Answers.{Answers}
 use Rattle.meta.specs.Kept.{input_object_check}
 use Rattle.meta.specs.declared.arguments.Argument.{Argument}

@@ -1,7 +1,7 @@
 -- Where October 2021 takes values that juniper refuses.
 use Rattle.std.specs.Prelude.{◌&&◌, Bool, Option, false, is_some, not}
 use Rattle.language.specs.declared.tree.VariableDefinition.{VariableDefinition}
-use Rattle.language.specs.Types.{is_never_null, shape}
+use Rattle.language_types.specs.Types.{is_never_null, shape}
 use Rattle.meta.specs.Kept.{takes_any_literal}
 use Rattle.meta.specs.declared.arguments.Argument.{Argument}
 use Rattle.meta.specs.declared.scalars.ScalarMetaOf.{ScalarMetaOf}

@@ -1,14 +1,14 @@
 -- The faults of a value that is handed in for a variable, row by row (section 6.1.2).
 use Rattle.std.specs.Prelude.{◌≡◌, ◌⊎◌, ℕ, List, [], ◌∷◌, ◌++◌, length, reverse, map, Option, Some, None, string_bytes}
 use Rattle.std.specs.Prelude.{nat_eq, if◌then◌else◌}
-use Rattle.language.specs.declared.types.TypeModifier.{TypeModifier}
-use Rattle.language.specs.declared.types.TypeModifier.TheVariants as m
-use Rattle.language.specs.declared.value.InputValue.{InputValue}
-use Rattle.language.specs.declared.value.InputValue.TheOpen as v
-use Rattle.language.specs.declared.value.InputValue.TheFolds.{rec-InputValue}
-use Rattle.language.specs.Types.{TypeShape, shape, printed}
-use Rattle.language.specs.Values.{Entry, last_value}
-use Rattle.language.specs.ValuesPrinted.{printed_value}
+use Rattle.language_types.specs.declared.types.TypeModifier.{TypeModifier}
+use Rattle.language_types.specs.declared.types.TypeModifier.TheVariants as m
+use Rattle.language_values.specs.declared.value.InputValue.{InputValue}
+use Rattle.language_values.specs.declared.value.InputValue.TheOpen as v
+use Rattle.language_values.specs.declared.value.InputValue.TheFolds.{rec-InputValue}
+use Rattle.language_types.specs.Types.{TypeShape, shape, printed}
+use Rattle.language_values.specs.Values.{Entry, last_value}
+use Rattle.language_values.specs.ValuesPrinted.{printed_value}
 use Rattle.meta.specs.Answers.{Answers, Accepts, RefusesWith}
 use Rattle.meta.specs.Kept.{scalar_check, input_object_check}
 use Rattle.meta.specs.declared.arguments.Argument.{Argument}

@@ -1,6 +1,6 @@
 -- The keys of an object that no input field has.
 use Rattle.std.specs.Prelude.{ℕ, List, [], ◌∷◌, ◌++◌, ◌||◌, map, fold, string_bytes, if◌then◌else◌}
-use Rattle.language.specs.Values.{Entry}
+use Rattle.language_values.specs.Values.{Entry}
 use Rattle.meta.specs.declared.arguments.Argument.{Argument}
 use Rattle.schema.specs.Possible.{is_among}
 

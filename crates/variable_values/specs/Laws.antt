@@ -1,8 +1,8 @@
 -- Laws of faults.
 use Rattle.std.specs.Prelude.{◌≡◌, ℕ, List, Option, Result}
-use Rattle.language.specs.declared.error.CheckError.{CheckError}
-use Rattle.language.specs.declared.value.InputValue.{InputValue}
-use Rattle.language.specs.Types.{TypeShape}
+use Rattle.language_types.specs.declared.error.CheckError.{CheckError}
+use Rattle.language_values.specs.declared.value.InputValue.{InputValue}
+use Rattle.language_types.specs.Types.{TypeShape}
 use Rattle.meta.specs.Answers.{Answers, SameAnswer}
 use Rattle.schema.specs.Catalog.{Catalog}
 use Rattle.variable_values.specs.Faults.{Fault, Faults}

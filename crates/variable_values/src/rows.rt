@@ -1,6 +1,6 @@
 //! What a type says of a value, its modifiers taken off.
 ghost use Rattle.std.specs.Prelude.{◌≡◌, List, Some, true};
-ghost use Rattle.language.specs.Types.{borrowed_shape, shape};
+ghost use Rattle.language_types.specs.Types.{borrowed_shape, shape};
 ghost use Rattle.schema_validation.specs.Names.{argument_type};
 ghost use Rattle.meta.specs.Kinds.{is_input_meta};
 ghost use Rattle.schema.specs.Catalog.{Catalog, type_in};

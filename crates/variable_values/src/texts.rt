@@ -1,7 +1,7 @@
 //! The messages of faults.
 ghost use Rattle.std.specs.Prelude.{◌≡◌, ◌++◌, IfOk, codes, string_bytes};
-ghost use Rattle.language.specs.Types.{borrowed_shape, printed};
-ghost use Rattle.language.specs.ValuesPrinted.{printed_value};
+ghost use Rattle.language_types.specs.Types.{borrowed_shape, printed};
+ghost use Rattle.language_values.specs.ValuesPrinted.{printed_value};
 ghost use Rattle.variable_values.specs.Faults.{here, unknown_field, under};
 ghost use Rattle.variable_values.specs.Messages.{required_text, told_after};
 ghost use Rattle.variable_values.specs.Places.{before};

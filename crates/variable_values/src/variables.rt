@@ -2,7 +2,7 @@
 ghost use Rattle.std.specs.Prelude.{◌≡◌, ◌++◌, IfOk, IsPermutation, IsSorted, List, OnOk, map, option_copied};
 ghost use Rattle.std.specs.Prelude.{string_bytes, true};
 ghost use Rattle.std.specs.BTreeMap.{get_by_text};
-ghost use Rattle.language.specs.Types.{borrowed_shape, shape};
+ghost use Rattle.language_types.specs.Types.{borrowed_shape, shape};
 ghost use Rattle.walk.specs.ErrorValue.{ErrorValue, error_cmp};
 ghost use Rattle.variable_values.specs.Inputs.{HasInputTypes, is_input_in};
 ghost use Rattle.variable_values.specs.Messages.{OfDefined, OfOperation, OfVariable, error_at, given, texts_of};

@@ -3,18 +3,18 @@ use Rattle.std.proofs.Common.{◌≡◌, ℕ, List, [], ◌∷◌, ◌++◌, Boo
 use Rattle.std.proofs.lemmas.Bool.{eqb-true}
 use Rattle.std.proofs.lemmas.List.{reverse-reverse}
 use Rattle.std.proofs.Math.Path.{transport}
-use Rattle.language.specs.declared.position.Span.{Span}
-use Rattle.language.specs.declared.position.Spanning.{Spanning}
-use Rattle.language.specs.declared.types.TypeModifier.{TypeModifier}
-use Rattle.language.specs.declared.types.TypeModifier.TheVariants as m
-use Rattle.language.specs.declared.value.InputValue.{InputValue, out-InputValue, out-roll-InputValue, roll-InputValue}
-use Rattle.language.specs.declared.value.InputValue.TheOpen as v
-use Rattle.language.specs.declared.value.InputValue.TheVariants as variant
-use Rattle.language.specs.Each.{Each}
-use Rattle.language.specs.Types.{IsNonNull, TypeShape, by_outermost, nullable_named, outermost, shape, wrapped_by}
-use Rattle.language.specs.Values.{Entry, last_value, entries_layer, items_layer, list_items, object_entries}
-use Rattle.language.specs.ValuesPrinted.{printed_value}
-use Rattle.language.proofs.Induction.{value_induction}
+use Rattle.language_types.specs.declared.position.Span.{Span}
+use Rattle.language_types.specs.declared.position.Spanning.{Spanning}
+use Rattle.language_types.specs.declared.types.TypeModifier.{TypeModifier}
+use Rattle.language_types.specs.declared.types.TypeModifier.TheVariants as m
+use Rattle.language_values.specs.declared.value.InputValue.{InputValue, out-InputValue, out-roll-InputValue, roll-InputValue}
+use Rattle.language_values.specs.declared.value.InputValue.TheOpen as v
+use Rattle.language_values.specs.declared.value.InputValue.TheVariants as variant
+use Rattle.language_values.specs.Each.{Each}
+use Rattle.language_types.specs.Types.{IsNonNull, TypeShape, by_outermost, nullable_named, outermost, shape, wrapped_by}
+use Rattle.language_values.specs.Values.{Entry, last_value, entries_layer, items_layer, list_items, object_entries}
+use Rattle.language_values.specs.ValuesPrinted.{printed_value}
+use Rattle.language_values.proofs.ValueInduction.{value_induction}
 use Rattle.meta.specs.Answers.{Answers, Accepts}
 use Rattle.meta.specs.Kept.{scalar_check, input_object_check}
 use Rattle.meta.specs.declared.arguments.Argument.{Argument}

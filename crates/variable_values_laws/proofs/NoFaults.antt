@@ -2,15 +2,15 @@
 use Rattle.std.proofs.Common.{◌≡◌, ℕ, List, [], ◌∷◌, ◌++◌, Bool, true, false, Contains, Option, Some, None, String, map, length, string_bytes, refl, ap, sym, ◌∙◌, inl, subst, if◌then◌else◌}
 use Rattle.std.specs.declared.alloc.Global.{Global}
 use Rattle.std.proofs.lemmas.Bool.{eq-eqb}
-use Rattle.language.specs.declared.position.Span.{Span}
-use Rattle.language.specs.declared.position.Spanning.{Spanning}
-use Rattle.language.specs.declared.types.TypeModifier.{TypeModifier}
-use Rattle.language.specs.declared.types.TypeModifier.TheVariants as m
-use Rattle.language.specs.declared.value.InputValue.{InputValue, out-InputValue, out-roll-InputValue}
-use Rattle.language.specs.declared.value.InputValue.TheOpen as v
-use Rattle.language.specs.declared.value.InputValue.TheVariants as variant
-use Rattle.language.specs.Types.{IsNonNull, TypeShape, by_outermost, inner_of, nullable_named, outermost, printed, shape, wrapped_by}
-use Rattle.language.specs.Values.{Entry, last_value, entries_layer, items_layer}
+use Rattle.language_types.specs.declared.position.Span.{Span}
+use Rattle.language_types.specs.declared.position.Spanning.{Spanning}
+use Rattle.language_types.specs.declared.types.TypeModifier.{TypeModifier}
+use Rattle.language_types.specs.declared.types.TypeModifier.TheVariants as m
+use Rattle.language_values.specs.declared.value.InputValue.{InputValue, out-InputValue, out-roll-InputValue}
+use Rattle.language_values.specs.declared.value.InputValue.TheOpen as v
+use Rattle.language_values.specs.declared.value.InputValue.TheVariants as variant
+use Rattle.language_types.specs.Types.{IsNonNull, TypeShape, by_outermost, inner_of, nullable_named, outermost, printed, shape, wrapped_by}
+use Rattle.language_values.specs.Values.{Entry, last_value, entries_layer, items_layer}
 use Rattle.meta.specs.Answers.{Answers, Accepts}
 use Rattle.meta.specs.Kept.{scalar_check, input_object_check}
 use Rattle.meta.specs.declared.arguments.Argument.{Argument}

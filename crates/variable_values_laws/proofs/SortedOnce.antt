@@ -6,7 +6,7 @@ use Rattle.std.proofs.lemmas.Cmp.{nat_cmp_total, nat_list_cmp_total, on_total, t
 use Rattle.std.proofs.lemmas.List.MinMax.{ranks_by}
 use Rattle.std.proofs.lemmas.List.Sorted.{length_permutation, sorted_far, sum_by-IsPermutation}
 use Rattle.std.proofs.lemmas.List.Sums.{sum_by-cons}
-use Rattle.language.specs.Position.{index_of, line_of, column_of}
+use Rattle.language_types.specs.Position.{index_of, line_of, column_of}
 use Rattle.walk.specs.ErrorValue.{ErrorValue, error_cmp, position_cmp}
 use Rattle.walk.proofs.Orders.{equal_means_same}
 

@@ -2,14 +2,14 @@
 use Rattle.std.specs.Prelude.{◌≡◌, ℕ, List, Contains, false, length, Option, Some, None, String, map, string_bytes}
 use Rattle.std.specs.BTreeMap.{get_by_text}
 use Rattle.std.specs.declared.alloc.Global.{Global}
-use Rattle.language.specs.declared.position.Span.{Span}
-use Rattle.language.specs.declared.position.Spanning.{Spanning}
+use Rattle.language_types.specs.declared.position.Span.{Span}
+use Rattle.language_types.specs.declared.position.Spanning.{Spanning}
 use Rattle.language.specs.declared.tree.Operation.{Operation}
-use Rattle.language.specs.declared.types.TypeModifier.TheVariants as m
-use Rattle.language.specs.declared.value.InputValue.{InputValue}
-use Rattle.language.specs.declared.value.InputValue.TheVariants as variant
-use Rattle.language.specs.Types.{IsNonNull, TypeShape, list_of, nullable_named, shape, wrapped_by}
-use Rattle.language.specs.Values.{Entry, last_value, list_items, object_entries}
+use Rattle.language_types.specs.declared.types.TypeModifier.TheVariants as m
+use Rattle.language_values.specs.declared.value.InputValue.{InputValue}
+use Rattle.language_values.specs.declared.value.InputValue.TheVariants as variant
+use Rattle.language_types.specs.Types.{IsNonNull, TypeShape, list_of, nullable_named, shape, wrapped_by}
+use Rattle.language_values.specs.Values.{Entry, last_value, list_items, object_entries}
 use Rattle.meta.specs.Answers.{Answers, Accepts}
 use Rattle.meta.specs.Kept.{scalar_check, input_object_check}
 use Rattle.meta.specs.declared.arguments.Argument.{Argument}

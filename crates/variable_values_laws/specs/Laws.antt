@@ -2,8 +2,8 @@
 use Rattle.std.specs.Prelude.{◌≡◌, ◌↔◌, ℕ, List, [], Contains, Option, Some, IsPermutation, IsSorted, reverse}
 use Rattle.std.specs.BTreeMap.{get_by_text}
 use Rattle.language.specs.declared.tree.Operation.{Operation}
-use Rattle.language.specs.declared.value.InputValue.{InputValue}
-use Rattle.language.specs.Types.{TypeShape, shape}
+use Rattle.language_values.specs.declared.value.InputValue.{InputValue}
+use Rattle.language_types.specs.Types.{TypeShape, shape}
 use Rattle.meta.specs.Answers.{Answers, Accepts}
 use Rattle.schema.specs.Catalog.{Catalog}
 use Rattle.events.specs.Node.{VariableEntry}

@@ -5,7 +5,7 @@ use Rattle.std.specs.Prelude.{Option, Some, None, IfSome, Result, Ok, Err, is_so
 use Rattle.answers.specs.Answers.{Answers, AnswersValues, OfBytes, SourceRules}
 use Rattle.answers.specs.declared.choices.Choices.{Choices}
 use Rattle.answers.specs.declared.reports.Answer.{Answer}
-use Rattle.language.specs.declared.error.OutOfMemory.{OutOfMemory}
+use Rattle.language_types.specs.declared.error.OutOfMemory.{OutOfMemory}
 use Rattle.schema.specs.declared.model.dialect.Dialect.{Dialect}
 use Rattle.schema_handle.specs.Calls.{SourceCatalog, report_of, schema_in, schema_of}
 use Rattle.schema_handle.specs.declared.calls.Shared.{Shared}

@@ -1,6 +1,6 @@
 -- What calls answer, and what they leave in a handle.
 use Rattle.std.specs.Prelude.{◌≡◌, ℕ, List, [], Option, Some, None, Result, Ok, Err, string_bytes}
-use Rattle.language.specs.declared.error.OutOfMemory.{OutOfMemory}
+use Rattle.language_types.specs.declared.error.OutOfMemory.{OutOfMemory}
 use Rattle.std.specs.Str.{IsUtf8}
 use Rattle.answers.specs.declared.reports.Answer.{Answer}
 use Rattle.answers.specs.declared.reports.Verdict.TheVariants.{NotUtf8}

@@ -6,7 +6,7 @@ ghost use Rattle.vorxindak.specs.Calls.{Keeps, TellsHeld};
 use crate::statuses::{CLOSED, OUT_OF_MEMORY, status_of};
 use answers::{Answer, AnswerRules, Choices, answer, answer_with_values};
 use graphql_reader::SourceScalar;
-use language::error::OutOfMemory;
+use language_types::error::OutOfMemory;
 use schema_handle::Held;
 use std::alloc::Global;
 

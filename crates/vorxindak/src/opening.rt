@@ -4,7 +4,7 @@ ghost use Rattle.schema_handle.specs.Calls.{report_of, schema_of};
 ghost use Rattle.vorxindak.specs.Calls.{Opens};
 
 use crate::statuses::{FAULTY_SCHEMA, NOT_UTF8, OUT_OF_MEMORY, VALID};
-use language::error::OutOfMemory;
+use language_types::error::OutOfMemory;
 use schema::model::Dialect;
 use schema_answers::{SchemaAnswer, read_schema};
 use schema_handle::{Handle, Held, SourceSchema};

@@ -8,7 +8,7 @@ use Rattle.std.specs.Ordering.{nat_cmp, on, then_cmp, ordering_then, is_lt, is_g
 use Rattle.std.proofs.lemmas.Bool.{true≢false}
 use Rattle.std.proofs.lemmas.Cmp.{nat_cmp_total, nat_list_cmp_total, on_total, then_total, lists_total, tied_itself}
 use Rattle.std.proofs.lemmas.Map.Lookups.{CmpEqualImpliesEq, exact_unsigned, exact_bytes}
-use Rattle.language.specs.Position.{index_of, line_of, column_of}
+use Rattle.language_types.specs.Position.{index_of, line_of, column_of}
 use Rattle.walk.specs.ErrorValue.{position_cmp, error_cmp, EqualMeansSame}
 
 both_equal : (a b : Ordering) → ordering_then a b ≡ Equal → (a ≡ Equal) × (b ≡ Equal)

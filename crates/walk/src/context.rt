@@ -3,7 +3,7 @@
 ghost use Rattle.std.specs.Prelude.{◌≡◌, ◌++◌, ◌∷◌, [], true, false, not, length, IsErr, IsOk, OnOk, OnErr, map, IfOk};
 ghost use Rattle.std.specs.Prelude.{IsPermutation, IsSorted};
 ghost use Rattle.std.specs.Option.{option_copied, option_map};
-ghost use Rattle.language.specs.Types.{borrowed_shape};
+ghost use Rattle.language_types.specs.Types.{borrowed_shape};
 ghost use Rattle.walk.specs.Calls.{CalledAt};
 ghost use Rattle.walk.specs.ContextState.{HasRoom, HasTypes, failing, fresh_context, has_place, has_some};
 ghost use Rattle.walk.specs.ContextState.{limited};

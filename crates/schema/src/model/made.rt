@@ -1,6 +1,6 @@
 //! The types of a schema for references to types in a document.
 ghost use Rattle.std.specs.Prelude.{◌≡◌, [], IfOk, IsOk, Some, true};
-ghost use Rattle.language.specs.Types.{borrowed_shape};
+ghost use Rattle.language_types.specs.Types.{borrowed_shape};
 ghost use Rattle.schema_validation.specs.Accepted.{is_listed};
 ghost use Rattle.schema.specs.Catalog.{type_in};
 ghost use Rattle.schema.specs.Wrapped.{wrapped_of};

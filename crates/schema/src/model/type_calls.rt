@@ -1,6 +1,6 @@
 //! Methods of the types of a schema.
 ghost use Rattle.std.specs.Prelude.{◌≡◌, ◌↔◌, IfOk, IsTrue, Some, option_copied, option_map};
-ghost use Rattle.language.specs.Types.{outermost, printed};
+ghost use Rattle.language_types.specs.Types.{outermost, printed};
 ghost use Rattle.schema.specs.Concrete.{concrete_of};
 ghost use Rattle.schema.specs.Wrapped.{wrap_meta, wrapped_of, items_of, wrapped_shape};
 

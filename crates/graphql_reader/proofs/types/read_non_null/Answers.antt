@@ -1,6 +1,6 @@
 use Rattle.std.proofs.Common.{refl}
 use Rattle.std.proofs.lemmas.Result.{IfOk-weaker}
-use Rattle.language.specs.Types.{shape}
+use Rattle.language_types.specs.Types.{shape}
 use Rattle.graphql_reader.proofs.TypeLaws.{banged}
 use Rattle.graphql_reader.proofs.TypeLeaveLaws.{bang_left, bang_taken}
 use Rattle.graphql_reader.proofs.types.read_non_null.Goals as goal

@@ -1,6 +1,6 @@
 use Rattle.std.proofs.Common.{◌≡◌, ◌+◌, ◌-◌, suc, reverse, ap, arith, subst, sym, ◌∙◌}
 use Rattle.std.proofs.lemmas.Result.{err_from_is_err_and}
-use Rattle.language.specs.Types.{shape}
+use Rattle.language_types.specs.Types.{shape}
 use Rattle.graphql_reader.specs.Languages.{AType, Closing, Leaves, NoBang}
 use Rattle.graphql_reader.specs.Passed.{Reads}
 use Rattle.graphql_reader.specs.Types.{MayBeNull, SpellsShape}

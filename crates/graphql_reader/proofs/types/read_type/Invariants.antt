@@ -1,5 +1,5 @@
 use Rattle.std.proofs.Common.{◌-◌}
-use Rattle.language.specs.Types.{shape}
+use Rattle.language_types.specs.Types.{shape}
 use Rattle.graphql_reader.specs.Languages.{AType, Closing, Leaves, NoBang}
 use Rattle.graphql_reader.specs.Passed.{Reads}
 use Rattle.graphql_reader.proofs.TypeLaws.{Inside}

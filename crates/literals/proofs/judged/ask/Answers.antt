@@ -1,5 +1,5 @@
 use Rattle.std.proofs.Common.{◌≡◌, Err, Some, refl, subst, sym, ap, ◌∙◌, option_copied, string_bytes}
-use Rattle.language.specs.ValuesPrinted.{printed_value}
+use Rattle.language_values.specs.ValuesPrinted.{printed_value}
 use Rattle.meta.specs.Kinds.{check_of_meta}
 use Rattle.literals.specs.Judged.{checked}
 use Rattle.literals.proofs.judged.ask.Goals as goal

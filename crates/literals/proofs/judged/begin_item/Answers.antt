@@ -1,6 +1,6 @@
 use Rattle.std.proofs.Common.{◌≡◌, ◌∷◌, string_bytes, option_map}
 use Rattle.std.proofs.lemmas.Result.{IfOk-weaker, on_ok_weaker}
-use Rattle.language.specs.ValuesPrinted.{printed_value}
+use Rattle.language_values.specs.ValuesPrinted.{printed_value}
 use Rattle.literals.specs.Begun.{IsKnown}
 use Rattle.literals.specs.declared.begun.Begun.TheVariants as b
 use Rattle.literals.specs.Expected.{expected_type}

@@ -1,8 +1,8 @@
 use Rattle.std.proofs.Common.{Some, None, refl, sym, ◌∙◌, ap, subst, string_bytes, option_map}
 use Rattle.std.proofs.lemmas.Result.{IfOk-weaker}
-use Rattle.language.specs.declared.value.InputValue.TheOpen as v
-use Rattle.language.specs.declared.value.InputValue.TheVariants as variant
-use Rattle.language.specs.ValuesPrinted.{printed_value}
+use Rattle.language_values.specs.declared.value.InputValue.TheOpen as v
+use Rattle.language_values.specs.declared.value.InputValue.TheVariants as variant
+use Rattle.language_values.specs.ValuesPrinted.{printed_value}
 use Rattle.schema.specs.Wrapped.{plain_meta}
 use Rattle.literals.specs.Begun.{IsKnown}
 use Rattle.literals.specs.Judged.{Judged, ObjectFault}

@@ -1,7 +1,7 @@
 use Rattle.std.proofs.Common.{arith, ◌≡◌, [], None, sym, subst, string_bytes, option_map, reverse}
 use Rattle.std.proofs.lemmas.Grind.{common_steps}
 use Rattle.std.proofs.lemmas.Result.{IfOk-weaker}
-use Rattle.language.specs.ValuesPrinted.{printed_value}
+use Rattle.language_values.specs.ValuesPrinted.{printed_value}
 use Rattle.literals.specs.Begun.{AfterAll}
 use Rattle.literals.proofs.BegunLaws.{after_none, told_after}
 use Rattle.literals.proofs.judged.fault_of_left.Goals as goal

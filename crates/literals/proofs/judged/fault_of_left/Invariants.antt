@@ -1,6 +1,6 @@
 use Rattle.std.proofs.Common.{List, None, Option, reverse, ℕ}
 use Rattle.std.specs.List.{All}
-use Rattle.language.specs.ValuesPrinted.{printed_value}
+use Rattle.language_values.specs.ValuesPrinted.{printed_value}
 use Rattle.literals.specs.Begun.{AfterAll, IsKnown}
 use Rattle.literals.proofs.judged.fault_of_left.Given as goal
 

@@ -1,6 +1,6 @@
 use Rattle.std.proofs.Common.{string_bytes, option_map}
 use Rattle.std.proofs.lemmas.Result.{IfOk-weaker, on_ok_weaker}
-use Rattle.language.specs.ValuesPrinted.{printed_value}
+use Rattle.language_values.specs.ValuesPrinted.{printed_value}
 use Rattle.literals.specs.Begun.{IsKnown}
 use Rattle.literals.proofs.BegunLaws.{all_less, goes_nowhere, goes_on}
 use Rattle.literals.proofs.judged.go_on_last.Goals as goal

@@ -1,5 +1,5 @@
 use Rattle.std.proofs.Common.{◌≡◌, ◌∷◌, sym, subst, string_bytes, option_map, IfOk}
-use Rattle.language.specs.ValuesPrinted.{printed_value}
+use Rattle.language_values.specs.ValuesPrinted.{printed_value}
 use Rattle.literals.specs.Begun.{Leads}
 use Rattle.literals.specs.FirstFault.{FirstFault}
 use Rattle.literals.specs.Judged.{EntryFault, LacksFields, keys_of}

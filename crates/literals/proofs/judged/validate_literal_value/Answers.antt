@@ -1,6 +1,6 @@
 use Rattle.std.proofs.Common.{option_map, string_bytes}
 use Rattle.std.proofs.lemmas.Result.{IfOk-weaker}
-use Rattle.language.specs.ValuesPrinted.{printed_value}
+use Rattle.language_values.specs.ValuesPrinted.{printed_value}
 use Rattle.schema.specs.Wrapped.{wrapped_of}
 use Rattle.literals.proofs.OneFault.{one_fault}
 use Rattle.literals.proofs.judged.validate_literal_value.Goals as goal

@@ -1,4 +1,4 @@
-use Rattle.language.specs.ValuesPrinted.{printed_value}
+use Rattle.language_values.specs.ValuesPrinted.{printed_value}
 use Rattle.literals.proofs.OneFault as lemma
 use Rattle.literals.proofs.laws.one_fault.Goals as goal
 

@@ -1,4 +1,4 @@
-use Rattle.language.specs.ValuesPrinted.{printed_value}
+use Rattle.language_values.specs.ValuesPrinted.{printed_value}
 use Rattle.literals.proofs.SomeFault as lemma
 use Rattle.literals.proofs.laws.some_fault.Goals as goal
 

@@ -1,5 +1,5 @@
 use Rattle.std.proofs.Common.{◌≡◌, List, Option, ℕ, length}
-use Rattle.language.specs.ValuesPrinted.{printed_value}
+use Rattle.language_values.specs.ValuesPrinted.{printed_value}
 use Rattle.schema.specs.Catalog.{Catalog}
 use Rattle.literals.specs.Expected.{expected_type}
 use Rattle.literals.specs.Judged.{Judged}

@@ -1,6 +1,6 @@
 use Rattle.std.proofs.Common.{◌≡◌, Some, ap, sym, ◌∙◌, true≢false}
-use Rattle.language.specs.declared.types.TypeModifier.TheVariants as m
-use Rattle.language.specs.ValuesPrinted.{printed_value}
+use Rattle.language_types.specs.declared.types.TypeModifier.TheVariants as m
+use Rattle.language_values.specs.ValuesPrinted.{printed_value}
 use Rattle.schema.specs.Wrapped.{wrap_meta}
 use Rattle.literals.specs.Expected.{expected_type}
 use Rattle.literals.specs.Judged.{printed_type}

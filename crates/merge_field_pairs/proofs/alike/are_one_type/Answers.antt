@@ -1,7 +1,7 @@
 use Rattle.std.proofs.Common.{◌≡◌, sym, ap, ◌∙◌}
 use Rattle.std.proofs.lemmas.Bool.Decides.{Decides-like}
-use Rattle.language.proofs.Members.{bytes_eq-same}
-use Rattle.language.specs.Types.{TypeShape, shape}
+use Rattle.language_values.proofs.Members.{bytes_eq-same}
+use Rattle.language_types.specs.Types.{TypeShape, shape}
 use Rattle.merge_field_pairs.proofs.SameTypes.{modifiers, one_shape}
 use Rattle.merge_field_pairs.proofs.alike.are_one_type.Goals as goal
 

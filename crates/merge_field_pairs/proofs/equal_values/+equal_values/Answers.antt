@@ -2,8 +2,8 @@ use Rattle.std.proofs.Common.{length, ◌&&◌, nat_eq, string_bytes, sym, ap, �
 use Rattle.std.specs.List.{list_all}
 use Rattle.std.specs.Cmp.Lexicographic.{pointwise}
 use Rattle.std.proofs.lemmas.Bool.{OnTrue_at, OnTrue_from}
-use Rattle.language.specs.ValuesEqual.{unlocated_eq, entry_in}
-use Rattle.language.proofs.ValueLemmas.{unlocated_eq-at-List, unlocated_eq-at-Object}
+use Rattle.language_values.specs.ValuesEqual.{unlocated_eq, entry_in}
+use Rattle.language_values.proofs.ValueLemmas.{unlocated_eq-at-List, unlocated_eq-at-Object}
 use Rattle.merge_field_pairs.proofs.equal_values.+equal_values.Goals as goal
 
 pub are_plainly_equal-returns-then-levels-gt0-clause-value : goal.are_plainly_equal-returns-then-levels-gt0-clause-value

@@ -1,7 +1,7 @@
 use Rattle.std.proofs.Common.{◌≡◌, ◌+◌, ◌*◌, drop, string_bytes}
 use Rattle.std.specs.List.{list_all}
 use Rattle.std.specs.Cmp.Lexicographic.{pointwise}
-use Rattle.language.specs.ValuesEqual.{unlocated_eq, entry_in}
+use Rattle.language_values.specs.ValuesEqual.{unlocated_eq, entry_in}
 use Rattle.merge_field_pairs.proofs.equal_values.+equal_values.Given as goal
 
 -- by the levels that are left

@@ -1,5 +1,5 @@
 use Rattle.std.proofs.Common.{ap, ◌∙◌}
-use Rattle.language.specs.Types.{shape, borrowed_shape}
+use Rattle.language_types.specs.Types.{shape, borrowed_shape}
 use Rattle.merge_field_pairs.specs.TypeConflict.{do_types_conflict}
 use Rattle.merge_field_pairs.proofs.TypeLemmas.{types_conflict-outermost}
 use Rattle.merge_field_pairs.proofs.type_conflict.are_in_conflict.Goals as goal

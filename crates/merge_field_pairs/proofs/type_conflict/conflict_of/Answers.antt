@@ -1,5 +1,5 @@
 use Rattle.std.proofs.Common.{option_copied, refl, sym, ap, ◌∙◌}
-use Rattle.language.specs.Types.{borrowed_shape}
+use Rattle.language_types.specs.Types.{borrowed_shape}
 use Rattle.merge_field_pairs.specs.TypeConflict.{do_names_conflict}
 use Rattle.merge_field_pairs.proofs.TypeLemmas.{conflict_at, conflict_inside}
 use Rattle.merge_field_pairs.proofs.type_conflict.conflict_of.Goals as goal

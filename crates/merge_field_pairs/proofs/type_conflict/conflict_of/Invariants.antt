@@ -1,5 +1,5 @@
 use Rattle.std.proofs.Common.{◌≡◌, length}
-use Rattle.language.specs.Types.{borrowed_shape}
+use Rattle.language_types.specs.Types.{borrowed_shape}
 use Rattle.merge_field_pairs.specs.TypeConflict.{do_types_conflict}
 use Rattle.merge_field_pairs.proofs.type_conflict.conflict_of.Given as goal
 

@@ -1,5 +1,5 @@
 use Rattle.std.proofs.Common.{◌≡◌, map, take, string_bytes}
-use Rattle.language.specs.Types.{shape}
+use Rattle.language_types.specs.Types.{shape}
 use Rattle.meta.proofs.texts.innermost_names.Given as goal
 
 abbrev pub invariant-loop-t : goal.invariant-loop-t

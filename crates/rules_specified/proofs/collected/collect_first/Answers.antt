@@ -1,7 +1,7 @@
 use Rattle.std.proofs.Common.{◌≡◌, ◌∙◌, [], ◌∷◌, ◌++◌, sym, ap, subst, refl, reverse}
 use Rattle.std.proofs.lemmas.List.{append-nil, nil_from_length, map-append}
-use Rattle.language.specs.References.{list_copied}
-use Rattle.language.specs.ValuesPrinted.{printed_value}
+use Rattle.language_types.specs.References.{list_copied}
+use Rattle.language_values.specs.ValuesPrinted.{printed_value}
 use Rattle.rules_specified.specs.Collecting.{IsPart, Marks, part_at, placed}
 use Rattle.rules_specified.specs.declared.collected.RootField.{RootField}
 use Rattle.rules_specified.proofs.CollectingLaws.{leads_as, leads_end, leads_field, leads_nothing, leads_set, waits}

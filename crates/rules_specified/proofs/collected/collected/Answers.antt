@@ -1,7 +1,7 @@
 use Rattle.std.proofs.Common.{◌≡◌, ◌∙◌, [], ◌∷◌, ◌++◌, sym, ap, subst, refl, reverse, rules}
 use Rattle.std.proofs.lemmas.List.{append-nil}
-use Rattle.language.specs.References.{list_copied}
-use Rattle.language.specs.ValuesPrinted.{printed_value}
+use Rattle.language_types.specs.References.{list_copied}
+use Rattle.language_values.specs.ValuesPrinted.{printed_value}
 use Rattle.rules_specified.specs.Collecting.{Leads, placed}
 use Rattle.rules_specified.proofs.CollectingLaws.{all_collected, leads_as, leads_on, leads_same, waits}
 use Rattle.rules_specified.proofs.collected.collected.Goals as goal

@@ -1,6 +1,6 @@
 use Rattle.std.proofs.Common.{[], ◌∷◌, reverse}
-use Rattle.language.specs.References.{list_copied}
-use Rattle.language.specs.ValuesPrinted.{printed_value}
+use Rattle.language_types.specs.References.{list_copied}
+use Rattle.language_values.specs.ValuesPrinted.{printed_value}
 use Rattle.rules_specified.specs.Collecting.{Leads, placed}
 use Rattle.rules_specified.proofs.collected.collected.Given as goal
 

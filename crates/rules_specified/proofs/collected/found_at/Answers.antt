@@ -1,6 +1,6 @@
 use Rattle.std.proofs.Common.{◌≡◌, ◌∙◌, sym, ap, subst, refl}
 use Rattle.std.proofs.lemmas.Result.{IfOk-weaker}
-use Rattle.language.specs.ValuesPrinted.{printed_value}
+use Rattle.language_values.specs.ValuesPrinted.{printed_value}
 use Rattle.rules_specified.specs.Collected.{field, of_inline, of_spread}
 use Rattle.rules_specified.specs.Collecting.{IsPart}
 use Rattle.rules_specified.proofs.Parts.{Unless, part_field, part_inline, part_spread}

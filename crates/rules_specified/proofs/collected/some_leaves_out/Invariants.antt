@@ -1,7 +1,7 @@
 use Rattle.std.proofs.Common.{◌≡◌, drop, Bool}
 use Rattle.std.specs.List.{list_any}
-use Rattle.language.specs.Position.{Placed}
-use Rattle.language.specs.ValuesPrinted.{printed_value}
+use Rattle.language_types.specs.Position.{Placed}
+use Rattle.language_values.specs.ValuesPrinted.{printed_value}
 use Rattle.language.specs.declared.tree.Directive.{Directive}
 use Rattle.rules_specified.specs.Collected.{leaves_out}
 use Rattle.rules_specified.proofs.collected.some_leaves_out.Given as goal

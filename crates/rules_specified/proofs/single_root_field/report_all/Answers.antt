@@ -1,7 +1,7 @@
 use Rattle.std.proofs.Common.{◌≡◌, ◌∙◌, [], sym, subst, ap}
 use Rattle.std.proofs.lemmas.Result.{IfOk-weaker}
 use Rattle.std.specs.Option.{option_map}
-use Rattle.language.specs.ValuesPrinted.{printed_value}
+use Rattle.language_values.specs.ValuesPrinted.{printed_value}
 use Rattle.rules_specified.specs.SingleRootField.{TellsEach, root_name}
 use Rattle.rules_specified.proofs.Telling.{reports_none, tells_no_subscription, tells_none}
 use Rattle.rules_specified.proofs.single_root_field.report_all.Goals as goal

@@ -1,6 +1,6 @@
 use Rattle.std.proofs.Common.{◌≡◌, [], sym, subst, ap, ◌∙◌}
 use Rattle.std.proofs.lemmas.Result.{IfOk-weaker}
-use Rattle.language.specs.ValuesPrinted.{printed_value}
+use Rattle.language_values.specs.ValuesPrinted.{printed_value}
 use Rattle.rules_specified.specs.Collected.{Collects}
 use Rattle.rules_specified.specs.SingleRootField.{root_errors}
 use Rattle.rules_specified.proofs.Telling.{tells_subscription}

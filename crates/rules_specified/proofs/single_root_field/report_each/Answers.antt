@@ -1,5 +1,5 @@
 use Rattle.std.proofs.Common.{◌≡◌, ◌++◌, sym, subst, ap}
-use Rattle.language.specs.ValuesPrinted.{printed_value}
+use Rattle.language_values.specs.ValuesPrinted.{printed_value}
 use Rattle.rules_specified.specs.SingleRootField.{Tells}
 use Rattle.rules_specified.proofs.Telling.{goes_on, goes_to_end, reports_more}
 use Rattle.rules_specified.proofs.single_root_field.report_each.Goals as goal

@@ -1,5 +1,5 @@
 use Rattle.std.proofs.Common.{◌≡◌, List, drop}
-use Rattle.language.specs.ValuesPrinted.{printed_value}
+use Rattle.language_values.specs.ValuesPrinted.{printed_value}
 use Rattle.walk.specs.ContextState.{with_errors}
 use Rattle.walk.specs.ErrorValue.{ErrorValue}
 use Rattle.rules_specified.proofs.Telling.{Goes}

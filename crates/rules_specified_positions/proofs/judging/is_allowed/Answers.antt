@@ -1,5 +1,5 @@
 use Rattle.std.proofs.Common.{◌≡◌, ◌↔◌, ◌||◌, IsTrue, ap, subst, ◌∙◌}
-use Rattle.language.specs.Types.{borrowed_shape, shape}
+use Rattle.language_types.specs.Types.{borrowed_shape, shape}
 use Rattle.rules_specified_positions.specs.Usages.{Fits, has_usable_default, type_to_fit}
 use Rattle.rules_specified_positions.proofs.judging.is_allowed.Goals as goal
 

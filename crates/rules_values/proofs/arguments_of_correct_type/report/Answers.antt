@@ -1,6 +1,6 @@
 use Rattle.std.proofs.Common.{◌≡◌, [], Some, None, refl, sym, ap, ◌∙◌, subst, option_map, string_bytes}
-use Rattle.language.specs.Types.{borrowed_shape}
-use Rattle.language.specs.ValuesPrinted.{printed_value}
+use Rattle.language_types.specs.Types.{borrowed_shape}
+use Rattle.language_values.specs.ValuesPrinted.{printed_value}
 use Rattle.literals.specs.Judged.{WrittenFault}
 use Rattle.walk.specs.ContextState.{typing, with_errors}
 use Rattle.walk.proofs.Kept.{with_none}

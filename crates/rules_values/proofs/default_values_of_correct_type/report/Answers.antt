@@ -1,7 +1,7 @@
 use Rattle.std.proofs.Common.{◌≡◌, OnOk, ap, ◌∙◌, subst}
 use Rattle.std.proofs.lemmas.Result.{on_ok_weaker}
-use Rattle.language.specs.Types.{printed, shape}
-use Rattle.language.specs.ValuesPrinted.{printed_value}
+use Rattle.language_types.specs.Types.{printed, shape}
+use Rattle.language_values.specs.ValuesPrinted.{printed_value}
 use Rattle.walk.specs.Rule.{Appended}
 use Rattle.rules_values.specs.DefaultValuesOfCorrectType.{default_of, needless_default_message}
 use Rattle.rules_values.specs.Faults.{error_at}

@@ -1,6 +1,6 @@
 use Rattle.std.proofs.Common.{ap, subst, IfOk, option_map, string_bytes}
-use Rattle.language.specs.Types.{borrowed_shape}
-use Rattle.language.specs.ValuesPrinted.{printed_value}
+use Rattle.language_types.specs.Types.{borrowed_shape}
+use Rattle.language_values.specs.ValuesPrinted.{printed_value}
 use Rattle.literals.specs.Judged.{WrittenFault}
 use Rattle.rules_values.proofs.faults.fault_at.Goals as goal
 

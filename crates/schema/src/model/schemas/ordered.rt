@@ -1,6 +1,6 @@
 //! The types and the directives of a schema, sorted.
 ghost use Rattle.std.specs.Prelude.{◌≡◌, IfOk, OnOk, true, map, IsPermutation, IsSorted};
-ghost use Rattle.language.specs.References.{list_copied};
+ghost use Rattle.language_types.specs.References.{list_copied};
 ghost use Rattle.meta.specs.Kinds.{name_of_meta};
 ghost use Rattle.schema_validation.specs.Directives.{directive_name};
 ghost use Rattle.schema_validation.specs.Named.{are_distinct};

@@ -1,6 +1,6 @@
 //! Which types are subtypes of which (section 3.6).
 ghost use Rattle.std.specs.Prelude.{◌≡◌, ◌↔◌, IsTrue, ◌&&◌, reverse};
-ghost use Rattle.language.specs.Types.{TypeShape, borrowed_shape};
+ghost use Rattle.language_types.specs.Types.{TypeShape, borrowed_shape};
 ghost use Rattle.schema_validation.specs.Accepted.{is_listed};
 ghost use Rattle.meta.specs.Kinds.{is_abstract_meta};
 ghost use Rattle.schema.specs.Possible.{is_among, possible_names};

@@ -1,6 +1,6 @@
 use Rattle.std.proofs.Common.{◌≡◌, take}
 use Rattle.std.specs.List.{flat_map}
-use Rattle.language.specs.References.{list_copied}
+use Rattle.language_types.specs.References.{list_copied}
 use Rattle.sdl_directive_circles.specs.Graph.{link_told}
 use Rattle.sdl_directive_circles.proofs.circles.names_on.Given as goal
 

@@ -1,6 +1,6 @@
 use Rattle.std.proofs.Common.{drop}
-use Rattle.language.specs.References.{list_copied}
-use Rattle.language.specs.ValuesLeft.{WritesPart}
+use Rattle.language_types.specs.References.{list_copied}
+use Rattle.language_values.specs.ValuesLeft.{WritesPart}
 use Rattle.sdl_directive_circles.specs.Circles.{steps_text}
 use Rattle.sdl_directive_circles.proofs.circles.write_steps.Given as goal
 

@@ -1,7 +1,7 @@
 use Rattle.std.proofs.Common.{◌≡◌, ◌↔◌, ◌∙◌, ◌++◌, List, [], ◌∷◌, ap, map, refl, subst}
 use Rattle.std.specs.List.{flat_map}
 use Rattle.sdl_directives.specs.Known.{definitions_of}
-use Rattle.language.specs.ValuesPrinted.{printed_value}
+use Rattle.language_values.specs.ValuesPrinted.{printed_value}
 use Rattle.sdl_directives.specs.Sites.{definition_sites, site_value, site_values}
 use Rattle.sdl_directives.proofs.Earlier.{flat_mapped}
 use Rattle.sdl_scalars.specs.Checks.{MayAnswer}

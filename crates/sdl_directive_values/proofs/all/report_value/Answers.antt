@@ -1,7 +1,7 @@
 use Rattle.std.proofs.Common.{[], None, Some, map, ap, refl, sym, ◌∙◌, subst, string_bytes, option_map}
 use Rattle.std.proofs.lemmas.List.{append-nil, map-append}
-use Rattle.language.specs.Types.{borrowed_shape}
-use Rattle.language.specs.ValuesPrinted.{printed_value}
+use Rattle.language_types.specs.Types.{borrowed_shape}
+use Rattle.language_values.specs.ValuesPrinted.{printed_value}
 use Rattle.literals.specs.Judged.{WrittenFault}
 use Rattle.sdl_scalars.specs.Checks.{MayAnswer}
 use Rattle.sdl_scalars.specs.SourceScalar.{source_str, source_text}

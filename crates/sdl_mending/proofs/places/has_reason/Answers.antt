@@ -2,7 +2,7 @@ use Rattle.std.proofs.Common.{◌≡◌, ◌∙◌, ◌&&◌, ℕ, true, false, 
 use Rattle.std.specs.List.{list_any}
 use Rattle.std.specs.List.Sorted.{IsPartitionPoint}
 use Rattle.std.proofs.lemmas.List.Sorted.{IsPartitionPoint-from_clause, IsPartitionedBy-ltb}
-use Rattle.language.specs.Position.{index_of}
+use Rattle.language_types.specs.Position.{index_of}
 use Rattle.sdl_mending.proofs.Ascending.{first_decides, none_decides}
 use Rattle.sdl_mending.proofs.places.has_reason.Goals as goal
 

@@ -1,5 +1,5 @@
 use Rattle.std.proofs.Common.{◌≡◌, ◌++◌, [], take}
-use Rattle.language.specs.References.{list_copied}
+use Rattle.language_types.specs.References.{list_copied}
 use Rattle.sdl_directives.specs.Earlier.{each_after}
 use Rattle.sdl_own_faults.specs.Fault.{reported}
 use Rattle.sdl_own_faults.specs.ListedTypes.{wrong_entry}

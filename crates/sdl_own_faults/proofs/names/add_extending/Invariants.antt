@@ -1,6 +1,6 @@
 use Rattle.std.proofs.Common.{◌≡◌, ◌++◌, take}
 use Rattle.std.specs.List.{flat_map}
-use Rattle.language.specs.References.{list_copied}
+use Rattle.language_types.specs.References.{list_copied}
 use Rattle.sdl_own_faults.specs.Names.{names_in}
 use Rattle.sdl_own_faults.specs.Parts.{definitions_of}
 use Rattle.sdl_own_faults.proofs.names.add_extending.Given as goal

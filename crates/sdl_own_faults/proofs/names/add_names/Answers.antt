@@ -1,7 +1,7 @@
 use denote.Ref.{Bor}
 use Rattle.std.proofs.Common.{ℕ, List, [], ◌∷◌, ap, refl, ◌∙◌}
 use Rattle.std.proofs.lemmas.List.{map-append}
-use Rattle.language.specs.References.{list_copied}
+use Rattle.language_types.specs.References.{list_copied}
 use Rattle.sdl_own_faults.proofs.Reported.{names_next}
 use Rattle.sdl_own_faults.proofs.names.add_names.Goals as goal
 

@@ -1,5 +1,5 @@
 use Rattle.std.proofs.Common.{◌≡◌, ◌++◌, take}
-use Rattle.language.specs.References.{list_copied}
+use Rattle.language_types.specs.References.{list_copied}
 use Rattle.sdl_own_faults.specs.Names.{written_names}
 use Rattle.sdl_own_faults.proofs.names.add_names.Given as goal
 

@@ -1,6 +1,6 @@
 use Rattle.std.proofs.Common.{◌≡◌, drop}
-use Rattle.language.specs.Names.{is_among}
-use Rattle.language.specs.References.{list_copied}
+use Rattle.language_types.specs.Names.{is_among}
+use Rattle.language_types.specs.References.{list_copied}
 use Rattle.sdl_own_faults.proofs.names.is_name_among.Given as goal
 
 -- what is left decides

@@ -1,5 +1,5 @@
 use Rattle.std.proofs.Common.{sym, ap, ◌≡◌, ◌∙◌, ◌++◌, ◌∷◌, [], true, false, append-nil, string_bytes}
-use Rattle.language.specs.Types.{borrowed_shape, shape}
+use Rattle.language_types.specs.Types.{borrowed_shape, shape}
 use Rattle.type_system_report.specs.declared.fault.CoordinateOf.TheVariants as at
 use Rattle.type_system_report.specs.declared.fault.FaultKindOf.TheVariants as k
 use Rattle.type_system_report.specs.Fault.{fault_if, reported}

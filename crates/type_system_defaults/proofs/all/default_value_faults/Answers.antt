@@ -1,8 +1,8 @@
 use Rattle.std.proofs.Common.{◌++◌, map, ap, ◌∙◌, subst}
 use Rattle.std.specs.List.{flat_map}
 use Rattle.std.proofs.lemmas.Result.{IfOk-weaker}
-use Rattle.language.specs.References.{list_copied}
-use Rattle.language.specs.ValuesPrinted.{printed_value}
+use Rattle.language_types.specs.References.{list_copied}
+use Rattle.language_values.specs.ValuesPrinted.{printed_value}
 use Rattle.type_system_defaults.specs.Faults.{AreFaults, reported}
 use Rattle.type_system_defaults.specs.Given.{directive_defaults, given_value, type_defaults}
 use Rattle.type_system_defaults.proofs.Conforms.{none_iff_conforming}

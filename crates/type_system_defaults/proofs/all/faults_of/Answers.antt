@@ -1,4 +1,4 @@
-use Rattle.language.specs.ValuesPrinted.{printed_value}
+use Rattle.language_values.specs.ValuesPrinted.{printed_value}
 use Rattle.type_system_defaults.specs.Given.{given_value}
 use Rattle.type_system_defaults.proofs.Found.{faults_next}
 use Rattle.type_system_defaults.proofs.all.faults_of.Goals as goal

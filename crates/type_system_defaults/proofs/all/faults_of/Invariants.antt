@@ -1,5 +1,5 @@
 use Rattle.std.proofs.Common.{map, take}
-use Rattle.language.specs.ValuesPrinted.{printed_value}
+use Rattle.language_values.specs.ValuesPrinted.{printed_value}
 use Rattle.type_system_defaults.specs.Faults.{AreFaults, reported}
 use Rattle.type_system_defaults.specs.Given.{given_value}
 use Rattle.type_system_defaults.proofs.all.faults_of.Given as goal

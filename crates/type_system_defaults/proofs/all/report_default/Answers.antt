@@ -1,7 +1,7 @@
 use Rattle.std.proofs.Common.{[], None, Some, map, ap, refl, sym, ◌∙◌, subst, string_bytes, option_map}
 use Rattle.std.proofs.lemmas.List.{append-nil, map-append}
-use Rattle.language.specs.Types.{borrowed_shape}
-use Rattle.language.specs.ValuesPrinted.{printed_value}
+use Rattle.language_types.specs.Types.{borrowed_shape}
+use Rattle.language_values.specs.ValuesPrinted.{printed_value}
 use Rattle.literals.specs.Judged.{WrittenFault}
 use Rattle.type_system_report.specs.Fault.{coordinate_value}
 use Rattle.type_system_defaults.specs.Faults.{default_fault, fault_at, reported}

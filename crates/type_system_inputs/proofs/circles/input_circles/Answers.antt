@@ -1,7 +1,7 @@
 use Rattle.std.proofs.Common.{◌≡◌, List, ap, map, subst, sym, ◌∙◌}
 use Rattle.std.specs.List.{All}
 use Rattle.std.proofs.lemmas.List.Elements.{All-same, All-weaker}
-use Rattle.language.specs.References.{list_copied}
+use Rattle.language_types.specs.References.{list_copied}
 use Rattle.meta.specs.Kinds.{input_fields_of}
 use Rattle.type_system_circles.specs.declared.graph.Node.{Node}
 use Rattle.type_system_circles.specs.Graph.{IsCircle}

@@ -1,5 +1,5 @@
 use Rattle.std.proofs.Common.{drop}
-use Rattle.language.specs.ValuesLeft.{WritesPart}
+use Rattle.language_values.specs.ValuesLeft.{WritesPart}
 use Rattle.type_system_inputs.specs.Told.{others_text}
 use Rattle.type_system_inputs.proofs.circles.write_others.Given as goal
 

@@ -1,5 +1,5 @@
 use Rattle.std.proofs.Common.{◌≡◌, map, take}
-use Rattle.language.specs.References.{list_copied}
+use Rattle.language_types.specs.References.{list_copied}
 use Rattle.meta.specs.Kinds.{input_fields_of}
 use Rattle.type_system_inputs.specs.Graph.{edges_from}
 use Rattle.type_system_inputs.proofs.graph.graph_of.Given as goal

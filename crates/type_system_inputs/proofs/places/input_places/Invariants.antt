@@ -1,5 +1,5 @@
 use Rattle.std.proofs.Common.{take}
-use Rattle.language.specs.References.{list_copied}
+use Rattle.language_types.specs.References.{list_copied}
 use Rattle.type_system_inputs.specs.Graph.{HasPlaces}
 use Rattle.type_system_inputs.proofs.places.input_places.Given as goal
 

@@ -1,6 +1,6 @@
 use Rattle.std.proofs.Common.{◌-◌, drop, length}
 use Rattle.std.proofs.lemmas.List.Elements.{All-drop, All-get_or, All-take}
-use Rattle.language.specs.References.{list_copied}
+use Rattle.language_types.specs.References.{list_copied}
 use Rattle.type_system_inputs.specs.Graph.{IsFieldLink}
 use Rattle.type_system_inputs.proofs.told.told_circle.Goals as goal
 

@@ -1,5 +1,5 @@
 use Rattle.std.proofs.lemmas.List.Elements.{All-same}
-use Rattle.language.specs.References.{list_copied}
+use Rattle.language_types.specs.References.{list_copied}
 use Rattle.type_system_inputs.specs.Graph.{IsFieldCircle, IsFieldLink}
 use Rattle.type_system_inputs.proofs.Items.{item_of}
 use Rattle.type_system_inputs.proofs.told.told_circles.Goals as goal

@@ -1,5 +1,5 @@
 use Rattle.std.proofs.lemmas.List.Elements.{All-get_or}
-use Rattle.language.specs.References.{list_copied}
+use Rattle.language_types.specs.References.{list_copied}
 use Rattle.type_system_inputs.specs.Graph.{IsFieldLink}
 use Rattle.type_system_inputs.proofs.told.told_fields.Goals as goal
 

@@ -1,5 +1,5 @@
 use Rattle.std.proofs.Common.{◌≡◌, map, take}
-use Rattle.language.specs.References.{list_copied}
+use Rattle.language_types.specs.References.{list_copied}
 use Rattle.type_system_inputs.specs.Graph.{field_of}
 use Rattle.type_system_inputs.specs.Told.{field_name}
 use Rattle.type_system_inputs.proofs.told.told_fields.Given as goal

@@ -1,5 +1,5 @@
 use Rattle.std.proofs.Common.{◌≡◌, drop, map, string_bytes}
-use Rattle.language.specs.Names.{is_among}
+use Rattle.language_types.specs.Names.{is_among}
 use Rattle.type_system_interfaces.proofs.listed.is_text_among.Given as goal
 
 abbrev pub invariant-loop-text : goal.invariant-loop-text

@@ -1,7 +1,7 @@
 use Rattle.std.proofs.Common.{◌≡◌, ◌∙◌, ◌||◌, Bool, true, false, List, [], ◌∷◌, Option, Some, None, ap, cond, refl, sym}
 use Rattle.std.specs.Prelude.{find}
 use Rattle.std.specs.List.{list_any}
-use Rattle.language.specs.Types.{shape}
+use Rattle.language_types.specs.Types.{shape}
 use Rattle.schema_validation.specs.Accepted.{is_listed, is_named}
 use Rattle.schema.specs.Catalog.{type_in}
 use Rattle.validation_examples.proofs.made_types.fault_of.Goals as goal

@@ -1,6 +1,6 @@
 use Rattle.std.proofs.Common.{◌≡◌, true, false, rules as std_rules, subst}
 use Rattle.std.proofs.lemmas.Result.{err_from_is_err_and}
-use Rattle.language.specs.declared.position.SourcePosition.{SourcePosition}
+use Rattle.language_types.specs.declared.position.SourcePosition.{SourcePosition}
 use Rattle.graphql_lexer.specs.Ahead.{ahead_of, left}
 use Rattle.value_reader.specs.Seen.{allows, rules_of, value_seen, IsVariable}
 use Rattle.value_reader.proofs.ReadLoop.{read_once}

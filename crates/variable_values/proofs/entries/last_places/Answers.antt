@@ -1,6 +1,6 @@
 use Rattle.std.proofs.Common.{subst}
 use Rattle.std.proofs.lemmas.List.{take_all}
-use Rattle.language.specs.Values.{last_value}
+use Rattle.language_values.specs.Values.{last_value}
 use Rattle.variable_values.specs.Entries.{IsPlaceOf, place_in}
 use Rattle.variable_values.proofs.PlacesOfEntries.{places_more}
 use Rattle.variable_values.proofs.entries.last_places.Goals as goal

@@ -1,5 +1,5 @@
 use Rattle.std.proofs.Common.{ℕ, List, take}
-use Rattle.language.specs.Values.{last_value}
+use Rattle.language_values.specs.Values.{last_value}
 use Rattle.variable_values.specs.Entries.{IsPlaceOf, place_in}
 use Rattle.variable_values.proofs.entries.last_places.Given as goal
 

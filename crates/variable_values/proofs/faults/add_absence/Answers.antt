@@ -1,6 +1,6 @@
 use Rattle.std.proofs.Common.{◌≡◌, [], ◌∷◌, ◌++◌, true, ap, sym, ◌∙◌, string_bytes, if◌then◌else◌}
 use Rattle.std.proofs.lemmas.Result.{on_ok_weaker}
-use Rattle.language.specs.Types.{printed, shape}
+use Rattle.language_types.specs.Types.{printed, shape}
 use Rattle.variable_values.specs.Dialects.{is_needed}
 use Rattle.variable_values.specs.Faults.{here, left_out}
 use Rattle.variable_values.specs.Messages.{texts_of, told_after}

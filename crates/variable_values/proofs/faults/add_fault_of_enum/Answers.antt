@@ -1,6 +1,6 @@
 use Rattle.std.proofs.Common.{◌≡◌, ◌++◌, ◌∷◌, [], Some, ap, sym, ◌∙◌, false, map, option_copied, string_bytes}
 use Rattle.std.proofs.lemmas.Result.{on_ok_weaker}
-use Rattle.language.specs.declared.value.InputValue.{out-InputValue}
+use Rattle.language_values.specs.declared.value.InputValue.{out-InputValue}
 use Rattle.meta.specs.declared.enum_values.EnumValue.{EnumValue}
 use Rattle.schema.specs.Possible.{is_among}
 use Rattle.variable_values.specs.Faults.{enum_faults, here, name_in}

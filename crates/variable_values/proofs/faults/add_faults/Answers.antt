@@ -1,6 +1,6 @@
 use Rattle.std.proofs.Common.{arith, ◌≡◌, []}
 use Rattle.std.proofs.lemmas.Grind.{common_steps}
-use Rattle.language.specs.Types.{borrowed_shape}
+use Rattle.language_types.specs.Types.{borrowed_shape}
 use Rattle.variable_values.specs.Begun.{IsKnown}
 use Rattle.variable_values.specs.Faults.{Faults}
 use Rattle.variable_values.specs.Messages.{Adds, invalid_text, texts_of}

@@ -1,6 +1,6 @@
 use Rattle.std.proofs.Common.{List, ℕ, reverse}
 use Rattle.std.specs.List.{All}
-use Rattle.language.specs.Types.{borrowed_shape}
+use Rattle.language_types.specs.Types.{borrowed_shape}
 use Rattle.variable_values.specs.Begun.{IsKnown, LeftOfAll}
 use Rattle.variable_values.specs.Faults.{Faults}
 use Rattle.variable_values.specs.Messages.{Adds, invalid_text, texts_of}

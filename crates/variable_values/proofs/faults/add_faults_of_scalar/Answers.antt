@@ -1,7 +1,7 @@
 use Rattle.std.proofs.Common.{◌≡◌, [], ◌∷◌, ◌++◌, inr, refl, ap, ◌∙◌, subst, string_bytes, option_map}
 use Rattle.std.proofs.lemmas.Result.{on_ok_weaker}
-use Rattle.language.specs.declared.value.InputValue.{out-InputValue}
-use Rattle.language.specs.ValuesPrinted.{printed_value}
+use Rattle.language_values.specs.declared.value.InputValue.{out-InputValue}
+use Rattle.language_values.specs.ValuesPrinted.{printed_value}
 use Rattle.meta.specs.Answers.{RefusesWith}
 use Rattle.meta.specs.Kept.{scalar_check}
 use Rattle.variable_values.specs.Faults.{Checked, accepted_faults, here}

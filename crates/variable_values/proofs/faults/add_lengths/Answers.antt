@@ -1,6 +1,6 @@
 use Rattle.std.proofs.Common.{◌≡◌, ◌++◌, [], Some, None, ap, sym, ◌∙◌, append_assoc, option_copied, refl, reverse}
 use Rattle.std.proofs.lemmas.List.{append-nil}
-use Rattle.language.specs.Types.{borrowed_shape, outermost}
+use Rattle.language_types.specs.Types.{borrowed_shape, outermost}
 use Rattle.variable_values.specs.Places.{before}
 use Rattle.variable_values.specs.Rows.{lengths_of_one}
 use Rattle.variable_values.proofs.RowLaws.{lengths_first, lengths_none, lengths_outer}

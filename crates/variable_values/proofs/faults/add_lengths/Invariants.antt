@@ -1,5 +1,5 @@
 use Rattle.std.proofs.Common.{◌≡◌, ◌++◌, List, length, map, reverse}
-use Rattle.language.specs.Types.{borrowed_shape}
+use Rattle.language_types.specs.Types.{borrowed_shape}
 use Rattle.variable_values.specs.Faults.{Fault}
 use Rattle.variable_values.specs.Messages.{texts_of, told_after}
 use Rattle.variable_values.specs.Places.{before}

@@ -1,6 +1,6 @@
 use Rattle.std.proofs.Common.{◌≡◌, ap, subst}
 use Rattle.std.specs.Prelude.{IfSome}
-use Rattle.language.specs.Types.{borrowed_shape}
+use Rattle.language_types.specs.Types.{borrowed_shape}
 use Rattle.variable_values.specs.Begun.{IsKnown}
 use Rattle.variable_values.specs.Faults.{Faults}
 use Rattle.variable_values.specs.Messages.{texts_of}

@@ -1,6 +1,6 @@
 use Rattle.std.proofs.Common.{◌≡◌, ◌+◌, ◌++◌, ap, ◌∙◌, option_copied, string_bytes}
 use Rattle.std.proofs.lemmas.Result.{on_ok_weaker}
-use Rattle.language.specs.Values.{last_value}
+use Rattle.language_values.specs.Values.{last_value}
 use Rattle.variable_values.specs.declared.begun.Begun.TheVariants as b
 use Rattle.variable_values.specs.declared.place.PathStep.TheVariants as p
 use Rattle.variable_values.specs.Begun.{IsKnown, Left, OfGiven}

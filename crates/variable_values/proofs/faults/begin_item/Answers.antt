@@ -1,6 +1,6 @@
 use Rattle.std.proofs.Common.{◌≡◌, ◌≤◌, ◌+◌, ◌<◌, get_or, length, arith, ap}
 use Rattle.std.proofs.lemmas.Result.{on_ok_weaker}
-use Rattle.language.specs.Types.{borrowed_shape}
+use Rattle.language_types.specs.Types.{borrowed_shape}
 use Rattle.variable_values.specs.declared.begun.Begun.TheVariants as b
 use Rattle.variable_values.specs.declared.place.PathStep.TheVariants as p
 use Rattle.variable_values.specs.Begun.{IsKnown, Left}

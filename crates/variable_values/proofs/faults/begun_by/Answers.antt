@@ -1,6 +1,6 @@
 use Rattle.std.proofs.Common.{◌≡◌, [], ◌∷◌, ◌++◌, Some, ap, sym, ◌∙◌, subst, refl, length, arith}
 use Rattle.std.proofs.lemmas.Result.{IfOk-weaker}
-use Rattle.language.specs.Types.{borrowed_shape, printed}
+use Rattle.language_types.specs.Types.{borrowed_shape, printed}
 use Rattle.variable_values.specs.Faults.{here, wrong_length}
 use Rattle.variable_values.specs.Messages.{texts_of}
 use Rattle.variable_values.specs.Places.{before}

@@ -1,6 +1,6 @@
 use Rattle.std.proofs.Common.{◌≡◌, ◌&&◌, true, false, ap, sym, ◌∙◌, drop, ◌+◌}
 use Rattle.std.specs.List.{list_all}
-use Rattle.language.specs.Types.{shape}
+use Rattle.language_types.specs.Types.{shape}
 use Rattle.schema_validation.proofs.Finds.{rest_at}
 use Rattle.variable_values.specs.Inputs as input
 use Rattle.variable_values.proofs.inputs.has_input_types.Goals as goal

@@ -1,4 +1,4 @@
-use Rattle.language.specs.Types.{borrowed_shape}
+use Rattle.language_types.specs.Types.{borrowed_shape}
 use Rattle.variable_values.proofs.RowLaws.{known_names}
 use Rattle.variable_values.proofs.rows.known_row.Goals as goal
 

@@ -1,5 +1,5 @@
 use Rattle.std.proofs.Common.{◌≡◌, List, length}
-use Rattle.language.specs.Types.{borrowed_shape}
+use Rattle.language_types.specs.Types.{borrowed_shape}
 use Rattle.schema.specs.Catalog.{Catalog}
 use Rattle.variable_values.specs.Faults.{Fault}
 use Rattle.variable_values.specs.Rows.{Others}

@@ -1,7 +1,7 @@
 use Rattle.std.proofs.Common.{◌≡◌, [], ◌∷◌, Some, None, ap, sym, ◌∙◌, subst, true≢false, option_copied}
-use Rattle.language.specs.declared.types.TypeModifier.TheVariants as m
-use Rattle.language.specs.Types.{borrowed_shape, inner_of, outermost, printed, wrapped_by}
-use Rattle.language.specs.Values.{list_items}
+use Rattle.language_types.specs.declared.types.TypeModifier.TheVariants as m
+use Rattle.language_types.specs.Types.{borrowed_shape, inner_of, outermost, printed, wrapped_by}
+use Rattle.language_values.specs.Values.{list_items}
 use Rattle.variable_values.specs.Faults.{here}
 use Rattle.variable_values.specs.Rows.{Others, SaysItems}
 use Rattle.variable_values.specs.Texts.{null_text}

@@ -1,6 +1,6 @@
 use Rattle.std.proofs.Common.{◌≡◌, [], ◌∷◌, ap, inl, inr, refl, subst, sym, ◌∙◌}
 use Rattle.std.proofs.lemmas.Result.{IfOk-weaker}
-use Rattle.language.specs.Types.{printed, shape}
+use Rattle.language_types.specs.Types.{printed, shape}
 use Rattle.walk.specs.ContextState.{with_errors}
 use Rattle.walk.proofs.Kept.{full_stays, with_none}
 use Rattle.rules_positions.proofs.Giving.{false_true}

@@ -1,7 +1,7 @@
 use Rattle.std.proofs.Common.{◌≡◌, ◌∙◌, List, [], ◌∷◌, ◌++◌, Option, ap}
 use Rattle.std.specs.List.{flat_map}
 use Rattle.std.proofs.lemmas.Result.{on_ok_weaker}
-use Rattle.language.specs.declared.position.SourcePosition.{SourcePosition}
+use Rattle.language_types.specs.declared.position.SourcePosition.{SourcePosition}
 use Rattle.type_system_inputs.specs.Told.{circle_text}
 use Rattle.sdl_faults.specs.Told.{ToldFault, field_place, field_places, told_circle, told_values}
 use Rattle.sdl_faults.proofs.Tells.{tells_value}

@@ -1,7 +1,7 @@
 use Rattle.std.proofs.Common.{◌∙◌, ap, subst}
 use Rattle.std.specs.Prelude.{IfOk}
 use Rattle.std.specs.Option.{option_map}
-use Rattle.language.specs.Types.{borrowed_shape}
+use Rattle.language_types.specs.Types.{borrowed_shape}
 use Rattle.walk.specs.Calls.{CalledAt}
 use Rattle.walk.specs.ContextState.{typing, pushed}
 use Rattle.events.specs.Typing.{at_type}

@@ -1,5 +1,5 @@
 use Rattle.std.proofs.Common.{◌≡◌}
-use Rattle.language.specs.Types.{borrowed_shape}
+use Rattle.language_types.specs.Types.{borrowed_shape}
 use Rattle.schema.proofs.SubtypeLemmas.{passes, passes-at, subtype-decides, subtype-refl, subtype-trans}
 use Rattle.schema.proofs.model.schemas.SchemaTypeOf.is_subtype.Goals as goal
 

@@ -1,5 +1,5 @@
 use Rattle.std.proofs.Common.{◌≡◌, Some, take}
-use Rattle.language.specs.Types.{borrowed_shape}
+use Rattle.language_types.specs.Types.{borrowed_shape}
 use Rattle.schema.specs.Catalog.{type_in}
 use Rattle.schema.specs.Wrapped.{wrapped_of}
 use Rattle.schema.proofs.model.schemas.SchemaTypeOf.make_type.Given as goal

@@ -1,6 +1,6 @@
 use Rattle.std.proofs.Common.{◌≡◌, Some, refl, ap, ◌∙◌}
-use Rattle.language.specs.declared.types.TypeModifier.TheVariants as m
-use Rattle.language.specs.Types.{outermost}
+use Rattle.language_types.specs.declared.types.TypeModifier.TheVariants as m
+use Rattle.language_types.specs.Types.{outermost}
 use Rattle.schema.specs.Wrapped.{wrapped_of}
 use Rattle.schema.proofs.WrappedLemmas.{wrapped-NonNull, wrapped-List, outermost-push}
 use Rattle.schema.proofs.model.types.TypeTypeOf.is_non_null.Goals as goal

@@ -1,5 +1,0 @@
-use Rattle.language.specs.ValuesInside.{values_inside}
-use Rattle.language.proofs.value.InputValue.drop.Given as goal
-
-abbrev pub decreases-loop-value : goal.decreases-loop-value
-decreases-loop-value g l = values_inside l.self

@@ -1,8 +1,0 @@
-use Rattle.std.proofs.Common.{◌≡◌}
-use Rattle.language.specs.EqualSteps.{answer_of, answer_after}
-use Rattle.language.specs.ValuesEqual.{unlocated_eq}
-use Rattle.language.proofs.value.compare.Given as goal
-
--- what is left to be compared answers for both values
-abbrev pub invariant-loop : goal.invariant-loop
-invariant-loop g l = answer_after g.S.PartialEq.eq l.waiting.items (answer_of g.S.PartialEq.eq l.comparison) ≡ unlocated_eq g.S.PartialEq.eq l.left l.right

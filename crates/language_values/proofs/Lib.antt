@@ -1,0 +1,11 @@
+pub mod ConstantLemmas
+pub mod InsideLaws
+pub mod LastValue
+pub mod Members
+pub mod PrintLeft
+pub mod PrintLemmas
+pub mod Separated
+pub mod ValueInduction
+pub mod ValueLaws
+pub mod ValueLemmas
+pub mod VariablesWaiting

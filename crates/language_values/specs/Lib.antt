@@ -1,0 +1,11 @@
+pub mod Each
+pub mod EqualSteps
+pub mod SameLaws
+pub mod Scalar
+pub mod Values
+pub mod ValuesEqual
+pub mod ValuesInside
+pub mod ValuesLeft
+pub mod ValuesPrinted
+pub mod ValuesSame
+pub mod ValuesWith
