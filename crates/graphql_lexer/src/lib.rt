@@ -4,8 +4,8 @@
 //! A line ends with a line feed, a carriage return, or both in this order.
 //!
 //! Proved of `Tokens`: its tokens, with their positions, are exactly those of the text by `specs/Lexical` and
-//! `specs/Lexemes`, which follow appendix B.1, up to the first place where no token begins. Of all other calls: they are
-//! safe and return, whatever the text. `strings` is re-exported from `graphql_strings`.
+//! `specs/Lexemes`, which follow appendix B.1, up to the first place where no token begins. Of all other calls: they
+//! are safe and return, whatever the text. `strings` is re-exported from `graphql_strings`.
 #![tactic(auto)]
 
 mod classes;
