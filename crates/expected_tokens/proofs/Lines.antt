@@ -2,9 +2,10 @@
 use Rattle.std.proofs.Common.{◌≡◌, ◌+◌, ◌⊎◌, inl, inr, ℕ, Bool, true, false, ◌&&◌, ◌==◌, if◌then◌else◌, List, []}
 use Rattle.std.proofs.Common.{◌∷◌, ◌++◌, length, refl, sym, ap, subst, ◌∙◌, append_assoc, length-append, arith}
 use Rattle.expected_tokens.specs.Answers.{next_line}
+use Rattle.graphql_strings.specs.Characters.{at, begins, three_quotes}
 use Rattle.graphql_lexer.specs.Lexemes.{Lexeme, AreLexemes, Reads, nothing, ignored, token, is_last, last_at, origin, position}
 use Rattle.graphql_lexer.specs.Lexical.{Token, punctuator, name, int, float, string, block_string, end, fault, IsIgnored}
-use Rattle.graphql_lexer.specs.Lexical.{IsToken, at, begins, three_quotes, is_comment_char, is_name_continue, is_number_byte}
+use Rattle.graphql_lexer.specs.Lexical.{IsToken, is_comment_char, is_name_continue, is_number_byte}
 use Rattle.graphql_lexer.specs.Places.{after, after_all}
 use Rattle.graphql_lexer.specs.declared.cursor.Cursor.{Cursor}
 use Rattle.graphql_lexer.proofs.Lists.{token_goes_on}

@@ -3,10 +3,10 @@ use Rattle.std.proofs.Common.{◌≡◌, ◌≤◌, ◌+◌, ℕ, suc, List, [],
 use Rattle.std.proofs.lemmas.Bool.Decides.{nat_tests}
 use Rattle.std.specs.List.{list_all}
 use Rattle.std.proofs.lemmas.List.{length-take-le}
+use Rattle.graphql_strings.proofs.Runs.{both}
 use Rattle.graphql_lexer.specs.Lexical.{is_comment_char}
 use Rattle.graphql_lexer.specs.Places.{after, after_all, along}
 use Rattle.graphql_lexer.specs.declared.cursor.Cursor.{Cursor}
-use Rattle.graphql_lexer.proofs.Names.{both}
 
 no_return : (c : ℕ) → is_comment_char c ≡ true → (c == 13) ≡ false
 no_return c h = grind (arith, nat_tests)

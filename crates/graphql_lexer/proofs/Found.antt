@@ -7,13 +7,14 @@ use Rattle.std.specs.Str.{is_utf8}
 use Rattle.std.proofs.lemmas.Str.{IsUtf8-from_is_utf8}
 use Rattle.std.proofs.lemmas.List.{take-append-drop}
 use Rattle.std.proofs.Math.Seq.{take-add}
-use Rattle.graphql_lexer.specs.Lexical.{Token, punctuator, name, int, float, string, block_string, fault, at, begins, is_digit, is_name_start, is_name_continue, is_number_byte, is_sign, is_indicator, is_source, is_string_char, three_quotes, escaped_quotes, IsName, IsDigits, IsWhole, IsIntegerPart, IsFraction, IsExponent, IsFloat, EndsNumber, IsStringText, no_char, char, escaped, IsBlockText, no_block_char, block_char, escaped_block, spelling, IsToken}
+use Rattle.graphql_strings.specs.Characters.{at, begins, three_quotes, escaped_quotes}
+use Rattle.graphql_strings.proofs.Runs.{run_all, run_stops, begins_split}
+use Rattle.graphql_lexer.specs.Lexical.{Token, punctuator, name, int, float, string, block_string, fault, is_digit, is_name_start, is_name_continue, is_number_byte, is_sign, is_indicator, is_source, is_string_char, IsName, IsDigits, IsWhole, IsIntegerPart, IsFraction, IsExponent, IsFloat, EndsNumber, IsStringText, no_char, char, escaped, IsBlockText, no_block_char, block_char, escaped_block, spelling, IsToken}
 use Rattle.graphql_lexer.specs.Lexemes.{is_last, IsFront}
 use Rattle.graphql_lexer.specs.Scanning.{digits, led, name_length, sign_length, whole_length, fraction, exponent, written, name_at, number_of, and_then, number_at, punctuator_of, punctuator_token, spread_at, string_length, string_at, block_length, block_turn, block_string_at, any_string_at, token_at}
 use Rattle.graphql_lexer.specs.declared.lexer.Punctuator.{Punctuator}
 use Rattle.graphql_lexer.specs.declared.lexer.Punctuator.TheVariants.{Bang, Dollar, Ampersand, ParenOpen, ParenClose, Spread, Colon, Equals, At, BracketOpen, BracketClose, BraceOpen, Pipe, BraceClose}
 use Rattle.graphql_lexer.proofs.Quoted.{block_plain, block_escape, closing}
-use Rattle.graphql_lexer.proofs.Runs.{run_all, run_stops, begins_split}
 
 found_fault : (text : List ℕ) → IsFront text (fault, 0)
 found_fault text = (λ e. cc, λ e. refl, λ e. cc)

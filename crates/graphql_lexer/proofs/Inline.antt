@@ -4,6 +4,7 @@ use Rattle.std.proofs.lemmas.Bool.Decides.{nat_tests}
 use Rattle.std.specs.List.{list_all}
 use Rattle.std.proofs.lemmas.List.{length-take, take-append-drop}
 use Rattle.std.proofs.lemmas.List.Folds.{list_all-append}
+use Rattle.graphql_strings.proofs.Runs.{both}
 use Rattle.graphql_lexer.specs.Lexical.{Token, punctuator, name, int, float, string, block_string, end, fault, spelling, is_comment_char, is_digit, is_indicator, is_sign, is_name_start, is_name_continue, IsDigits, IsWhole, IsIntegerPart, IsFraction, IsExponent, IsStringText, no_char, char, escaped, IsToken}
 use Rattle.graphql_lexer.specs.Lexemes.{is_last, IsFront}
 use Rattle.graphql_lexer.specs.Places.{after_all, along}
@@ -14,7 +15,6 @@ use Rattle.graphql_lexer.specs.declared.lexer.Punctuator.{Punctuator}
 use Rattle.graphql_lexer.specs.declared.lexer.Punctuator.TheVariants.{Bang, Dollar, Ampersand, ParenOpen, ParenClose, Spread, Colon, Equals, At, BracketOpen, BracketClose, BraceOpen, Pipe, BraceClose}
 use Rattle.graphql_lexer.proofs.Along.{along_front}
 use Rattle.graphql_lexer.proofs.Found.{tokens_found}
-use Rattle.graphql_lexer.proofs.Names.{both}
 use Rattle.graphql_lexer.proofs.Read.{tokens_read}
 
 abbrev Plain : List ℕ → Type 0

@@ -1,8 +1,4 @@
 pub mod Along
-pub mod BlockLaws
-pub mod BlockValue
-pub mod EscapeLaws
-pub mod FaultLaws
 pub mod Found
 pub mod Inline
 pub mod Lists
@@ -12,9 +8,7 @@ pub mod Passed
 pub mod Progress
 pub mod Quoted
 pub mod Read
-pub mod Runs
 pub mod Skipped
-pub mod StringLaws
 pub mod Tables
 pub mod Turns
 pub mod Unique

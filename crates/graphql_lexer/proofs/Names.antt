@@ -1,26 +1,16 @@
 -- Names and whole numbers are read as the grammar writes them.
-use Rattle.std.proofs.Common.{◌≡◌, ◌<◌, ℕ, List, [], ◌∷◌, ◌++◌, Bool, true, false, ◌&&◌, ◌||◌, ◌==◌, nat_le, if◌then◌else◌, length, refl, sym, ap, subst, ◌∙◌, arith, length-append}
+use Rattle.std.proofs.Common.{◌≡◌, ◌<◌, ◌≤◌, ℕ, List, [], ◌∷◌, ◌++◌, Bool, true, false, ◌||◌, ◌==◌, nat_le, if◌then◌else◌, length, take, refl, sym, ap, subst, ◌∙◌, arith, length-append}
 use Rattle.std.proofs.lemmas.Bool.Decides.{nat_tests}
-use Rattle.std.specs.List.{prefix_len, list_all}
-use Rattle.std.specs.Str.{is_utf8, IsAscii}
+use Rattle.std.proofs.lemmas.List.Sums.{prefix_len-le-length}
+use Rattle.std.specs.List.{list_all}
+use Rattle.std.specs.Str.{is_utf8, IsAscii, IsUtf8}
 use Rattle.std.proofs.lemmas.Str.{is_utf8-from_IsUtf8, IsUtf8-from_ascii}
 use Rattle.std.proofs.lemmas.Str.Ascii.{IsAscii-nil, IsAscii-cons}
 use Rattle.std.proofs.Math.Seq.{take-append_seam}
-use Rattle.graphql_lexer.specs.Lexical.{Token, name, at, is_digit, is_name_start, is_name_continue, IsName, EndsName}
+use Rattle.graphql_strings.specs.Characters.{at}
+use Rattle.graphql_strings.proofs.Runs.{both, run_all, run_length}
+use Rattle.graphql_lexer.specs.Lexical.{Token, name, is_digit, is_name_start, is_name_continue, IsName, EndsName}
 use Rattle.graphql_lexer.specs.Scanning.{name_length, written, name_at, token_at, any_string_at, spread_at, number_at, punctuator_token, punctuator_of}
-
-pub both : (a b : Bool) → (a && b) ≡ true → (a ≡ true) × (b ≡ true)
-both true b h = (refl, h)
-both false b h = (let no : false ≡ true = h in cc, let no : false ≡ true = h in cc)
-
--- a run of what passes, before what does not
-pub run_length : (p : ℕ → Bool) (s r : List ℕ) → list_all p s ≡ true → p (at r 0) ≡ false → prefix_len p (s ++ r) ≡ length s
-run_length p [] [] h k = refl
-run_length p [] (x ∷ xs) h k = rw k refl
-run_length p (c ∷ cs) r h k =
-    let parts = both (p c) (list_all p cs) h in
-    let more = run_length p cs r parts.1 k in
-    rw parts.0 (omega arith)
 
 pub all_ascii : (p : ℕ → Bool) → ((c : ℕ) → p c ≡ true → c < 128) → (s : List ℕ) → list_all p s ≡ true → IsAscii s
 all_ascii p h [] k = IsAscii-nil
@@ -80,3 +70,20 @@ number_first c cs h k l =
     ap (λ a. choice a (c == 46) ((c == 45) || is_digit c) (is_name_start c) c cs) h
     ∙ ap (λ b. choice false b ((c == 45) || is_digit c) (is_name_start c) c cs) k
     ∙ ap (λ d. choice false false d (is_name_start c) c cs) l
+
+-- the name at the front is there, and is UTF-8
+pub name_utf8 : (text : List ℕ) → IsUtf8 (take (name_length text) text)
+unfolding name_length
+name_utf8 text = IsUtf8-from_ascii _ (all_ascii is_name_continue continue_ascii _ (run_all is_name_continue text))
+
+name_within : (text : List ℕ) → name_length text ≤ length text
+unfolding name_length
+name_within text = prefix_len-le-length is_name_continue text
+
+pub name_there : (text : List ℕ) → (name (take (name_length text) text), name_length text) ≡ name_at text
+name_there text =
+    let n = name_length text in
+    let within : n ≤ length text = name_within text in
+    let long : nat_le n (length text) ≡ true = grind (arith, nat_tests) in
+    let valid : is_utf8 (take n text) ≡ true = is_utf8-from_IsUtf8 (take n text) (name_utf8 text) in
+    rw (long, valid) refl

@@ -6,9 +6,11 @@ use Rattle.std.specs.Str.{IsAscii}
 use Rattle.std.proofs.lemmas.Str.Ascii.{IsAscii-nil, IsAscii-cons}
 use Rattle.std.proofs.lemmas.Str.{IsAscii-append}
 use Rattle.std.proofs.Math.Seq.{drop-append_seam, drop-append-add}
-use Rattle.graphql_lexer.specs.Lexical.{Token, int, float, fault, at, is_digit, is_sign, is_indicator, is_number_byte, IsDigits, IsWhole, IsIntegerPart, IsFraction, IsExponent, IsFloat, EndsNumber}
+use Rattle.graphql_strings.specs.Characters.{at}
+use Rattle.graphql_strings.proofs.Runs.{both, run_length}
+use Rattle.graphql_lexer.specs.Lexical.{Token, int, float, fault, is_digit, is_sign, is_indicator, is_number_byte, IsDigits, IsWhole, IsIntegerPart, IsFraction, IsExponent, IsFloat, EndsNumber}
 use Rattle.graphql_lexer.specs.Scanning.{digits, sign_length, whole_length, fraction, exponent, and_then, number_of, number_at, token_at}
-use Rattle.graphql_lexer.proofs.Names.{both, run_length, all_ascii, written_there, number_first}
+use Rattle.graphql_lexer.proofs.Names.{all_ascii, written_there, number_first}
 
 not_digit : (c : ℕ) → is_number_byte c ≡ false → is_digit c ≡ false
 not_digit c h = grind (arith, nat_tests)

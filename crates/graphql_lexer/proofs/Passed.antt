@@ -3,10 +3,10 @@ use Rattle.std.proofs.Common.{◌≡◌, ◌<◌, ◌≤◌, ◌+◌, ◌-◌, i
 use Rattle.std.proofs.lemmas.Bool.Decides.{nat_tests}
 use Rattle.std.specs.List.{prefix_len}
 use Rattle.std.proofs.lemmas.List.Sums.{prefix_len-le-length}
-use Rattle.graphql_lexer.specs.Lexical.{is_blank, is_comment_char, begins, byte_order_mark, IsIgnored}
+use Rattle.graphql_strings.specs.Characters.{begins}
+use Rattle.graphql_strings.proofs.Runs.{run_all, run_stops, begins_split, run_length}
+use Rattle.graphql_lexer.specs.Lexical.{is_blank, is_comment_char, byte_order_mark, IsIgnored}
 use Rattle.graphql_lexer.specs.Scanning.{comment_length, ignored_at, ignored_from, ignored_length}
-use Rattle.graphql_lexer.proofs.Names.{run_length}
-use Rattle.graphql_lexer.proofs.Runs.{run_all, run_stops, begins_split}
 
 mark_at : (r : List ℕ) → ignored_at (byte_order_mark ++ r) ≡ 3
 unfolding ignored_at

@@ -2,7 +2,8 @@
 use Rattle.std.proofs.Common.{◌≡◌, ◌<◌, ◌+◌, ℕ, zero, suc, List, [], ◌∷◌, Bool, true, false, ◌&&◌, ◌||◌, ◌==◌, nat_le, if◌then◌else◌, Option, Some, None, length, take, drop, refl, sym, ap, ◌∙◌, arith, length-drop}
 use Rattle.std.proofs.lemmas.Bool.Decides.{nat_tests}
 use Rattle.std.specs.Str.{is_utf8}
-use Rattle.graphql_lexer.specs.Lexical.{Token, punctuator, name, int, float, string, block_string, fault, at, is_digit, is_name_start, is_name_continue, is_number_byte, begins, three_quotes}
+use Rattle.graphql_strings.specs.Characters.{at, begins, three_quotes}
+use Rattle.graphql_lexer.specs.Lexical.{Token, punctuator, name, int, float, string, block_string, fault, is_digit, is_name_start, is_name_continue, is_number_byte}
 use Rattle.graphql_lexer.specs.Scanning.{name_length, sign_length, whole_length, fraction, exponent, written, name_at, number_of, and_then, number_at, punctuator_of, punctuator_token, spread_at, string_length, string_at, block_length, block_string_at, any_string_at, token_at}
 use Rattle.graphql_lexer.specs.Lexemes.{Lexeme, is_last, position}
 use Rattle.graphql_lexer.specs.Scan.{gap, ahead, start_at, stop_at, rest_at, lexeme_at, lexemes, tokens_from}

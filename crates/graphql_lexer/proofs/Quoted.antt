@@ -4,7 +4,8 @@ use Rattle.std.proofs.lemmas.Bool.Decides.{nat_tests}
 use Rattle.std.specs.Str.{is_utf8, IsUtf8}
 use Rattle.std.proofs.lemmas.Str.{is_utf8-from_IsUtf8}
 use Rattle.std.proofs.Math.Seq.{take-append_seam, drop-append_seam}
-use Rattle.graphql_lexer.specs.Lexical.{string, block_string, at, begins, is_source, is_string_char, three_quotes, escaped_quotes, IsStringText, no_char, char, escaped, IsBlockText, no_block_char, block_char, escaped_block}
+use Rattle.graphql_strings.specs.Characters.{at, begins, three_quotes, escaped_quotes}
+use Rattle.graphql_lexer.specs.Lexical.{string, block_string, is_source, is_string_char, IsStringText, no_char, char, escaped, IsBlockText, no_block_char, block_char, escaped_block}
 use Rattle.graphql_lexer.specs.Scanning.{front, string_length, string_at, block_length, block_turn, block_string_at, any_string_at, token_at}
 
 -- ---- on one line

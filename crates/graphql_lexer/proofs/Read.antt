@@ -1,6 +1,7 @@
 -- Each token is read as it is written, whatever follows that may follow it.
 use Rattle.std.proofs.Common.{◌≡◌, ℕ, List, ◌++◌, false, length, refl, sym, subst}
-use Rattle.graphql_lexer.specs.Lexical.{Token, punctuator, name, int, float, string, block_string, end, fault, begins, three_quotes, spelling, IsToken}
+use Rattle.graphql_strings.specs.Characters.{begins, three_quotes}
+use Rattle.graphql_lexer.specs.Lexical.{Token, punctuator, name, int, float, string, block_string, end, fault, spelling, IsToken}
 use Rattle.graphql_lexer.specs.Scanning.{token_at, punctuator_of, spread_at}
 use Rattle.graphql_lexer.specs.declared.lexer.Punctuator.{Punctuator}
 use Rattle.graphql_lexer.specs.declared.lexer.Punctuator.TheVariants.{Bang, Dollar, Ampersand, ParenOpen, ParenClose, Spread, Colon, Equals, At, BracketOpen, BracketClose, BraceOpen, Pipe, BraceClose}

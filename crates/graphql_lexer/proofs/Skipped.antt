@@ -5,7 +5,8 @@ use Rattle.std.specs.List.{list_all}
 use Rattle.std.proofs.lemmas.List.{drop-drop}
 use Rattle.std.proofs.lemmas.List.Sums.{fold-append}
 use Rattle.std.proofs.Math.Seq.{take-add}
-use Rattle.graphql_lexer.specs.Lexical.{at, is_blank, is_comment_char, is_line_end, IsIgnored}
+use Rattle.graphql_strings.specs.Characters.{at, is_line_end}
+use Rattle.graphql_lexer.specs.Lexical.{is_blank, is_comment_char, IsIgnored}
 use Rattle.graphql_lexer.specs.Places.{after, after_all, along, Counts}
 use Rattle.graphql_lexer.specs.Scan.{gap, Passes}
 use Rattle.graphql_lexer.specs.Scanning.{ignored_at}

@@ -4,7 +4,9 @@ use Rattle.std.proofs.lemmas.Bool.Decides.{nat_tests}
 use Rattle.std.proofs.lemmas.List.{take-append-drop}
 use Rattle.std.proofs.lemmas.List.Sums.{fold-append}
 use Rattle.std.proofs.Math.Seq.{take-append_seam, drop-append_seam, take-append-add, drop-append-add}
-use Rattle.graphql_lexer.specs.Lexical.{Token, punctuator, name, int, float, string, block_string, end, fault, is_blank, begins, byte_order_mark, IsIgnored, IsToken}
+use Rattle.graphql_strings.specs.Characters.{begins}
+use Rattle.graphql_strings.proofs.Runs.{begins_split}
+use Rattle.graphql_lexer.specs.Lexical.{Token, punctuator, name, int, float, string, block_string, end, fault, is_blank, byte_order_mark, IsIgnored, IsToken}
 use Rattle.graphql_lexer.specs.Lexemes.{Lexeme, is_last, position, Reads, nothing, ignored, token, Stuck, Ends, last_at, AreLexemes}
 use Rattle.graphql_lexer.specs.Places.{after, after_all}
 use Rattle.graphql_lexer.specs.Scan.{gap, tokens_from, tokens}
@@ -15,7 +17,6 @@ use Rattle.graphql_lexer.proofs.Lists.{token_goes_on, end_there}
 use Rattle.graphql_lexer.proofs.Passed.{ignored_read, ignored_some, ignored_found, skip_step, skip_none}
 use Rattle.graphql_lexer.proofs.Progress.{scanned}
 use Rattle.graphql_lexer.proofs.Read.{tokens_read}
-use Rattle.graphql_lexer.proofs.Runs.{begins_split}
 
 abbrev parts : Cursor → List ℕ → List Lexeme
 parts start a =

@@ -1,9 +1,10 @@
 -- Tokens and ignored tokens, production by production (GraphQL, October 2021, appendix B.1), over the bytes of UTF-8.
 -- Each is a relation on the bytes of the token and on what follows it, which the restrictions on lookahead speak of.
-use Rattle.std.specs.Prelude.{◌≡◌, ◌<◌, ◌⊎◌, ℕ, Bool, true, false, ◌&&◌, ◌||◌, ◌==◌, nat_le, nat_eq, List, [], ◌∷◌}
-use Rattle.std.specs.Prelude.{◌++◌, length, slice_index}
-use Rattle.std.specs.List.{list_all, starts_with}
+use Rattle.std.specs.Prelude.{◌≡◌, ◌<◌, ◌⊎◌, ℕ, Bool, true, false, ◌&&◌, ◌||◌, ◌==◌, nat_le, List, [], ◌∷◌}
+use Rattle.std.specs.Prelude.{◌++◌, length}
+use Rattle.std.specs.List.{list_all}
 use Rattle.std.specs.Str.{IsUtf8}
+use Rattle.graphql_strings.specs.Characters.{at, begins, is_line_end, three_quotes, escaped_quotes}
 use Rattle.graphql_lexer.specs.declared.lexer.Punctuator.{Punctuator}
 use Rattle.graphql_lexer.specs.declared.lexer.Punctuator.TheVariants.{Bang, Dollar, Ampersand, ParenOpen, ParenClose}
 use Rattle.graphql_lexer.specs.declared.lexer.Punctuator.TheVariants.{Spread, Colon, Equals, At, BracketOpen}
@@ -20,22 +21,11 @@ pub data Token : Type 0 where
   end : Token
   fault : Token
 
--- the byte at an index, or 0 past the end, which no production has
-abbrev pub at : List ℕ → ℕ → ℕ
-at text n = slice_index text n
-
-abbrev pub begins : List ℕ → List ℕ → Bool
-begins word text = starts_with nat_eq text word
-
 -- ---- 2.1.1 to 2.1.7: characters and ignored tokens
 
 -- SourceCharacter: tab, line feed, carriage return, and all from the space on. Characters past U+FFFF are among them.
 abbrev pub is_source : ℕ → Bool
 is_source c = ((c == 9) || ((c == 10) || (c == 13))) || nat_le 32 c
-
--- LineTerminator, a byte of it
-abbrev pub is_line_end : ℕ → Bool
-is_line_end c = (c == 10) || (c == 13)
 
 -- WhiteSpace, LineTerminator or Comma
 abbrev pub is_blank : ℕ → Bool
@@ -144,12 +134,6 @@ abbrev pub EndsNumber : List ℕ → Type 0
 EndsNumber rest = is_number_byte (at rest 0) ≡ false
 
 -- ---- 2.9.4: strings
-
-abbrev pub three_quotes : List ℕ
-three_quotes = 34 ∷ 34 ∷ 34 ∷ []
-
-abbrev pub escaped_quotes : List ℕ
-escaped_quotes = 92 ∷ three_quotes
 
 -- A character of a string on one line, or behind a backslash in it. Which escapes there are, `string_value` decides.
 abbrev pub is_string_char : ℕ → Bool

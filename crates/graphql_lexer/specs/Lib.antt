@@ -1,12 +1,7 @@
 pub mod Ahead
-pub mod BlockScanning
-pub mod BlockStrings
 pub mod Lexemes
 pub mod Lexical
 pub mod Places
 pub mod Scan
 pub mod Scanning
 pub mod Seen
-pub mod StringFaults
-pub mod StringValues
-pub mod Unescaping

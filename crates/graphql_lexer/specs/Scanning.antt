@@ -4,14 +4,15 @@ use Rattle.std.specs.Prelude.{ℕ, zero, suc, ◌+◌, ◌-◌, Bool, false, not
 use Rattle.std.specs.Prelude.{List, [], ◌∷◌, length, take, drop, Option, Some, None}
 use Rattle.std.specs.List.{prefix_len}
 use Rattle.std.specs.Str.{is_utf8}
+use Rattle.graphql_strings.specs.Characters.{at, begins, three_quotes, escaped_quotes}
 use Rattle.graphql_lexer.specs.declared.lexer.Punctuator.{Punctuator}
 use Rattle.graphql_lexer.specs.declared.lexer.Punctuator.TheVariants.{Bang, Dollar, Ampersand, ParenOpen, ParenClose}
 use Rattle.graphql_lexer.specs.declared.lexer.Punctuator.TheVariants.{Spread, Colon, Equals, At, BracketOpen}
 use Rattle.graphql_lexer.specs.declared.lexer.Punctuator.TheVariants.{BracketClose, BraceOpen, Pipe, BraceClose}
-use Rattle.graphql_lexer.specs.Lexical.{Token, punctuator, name, int, float, string, block_string, end, fault, at}
+use Rattle.graphql_lexer.specs.Lexical.{Token, punctuator, name, int, float, string, block_string, end, fault}
 use Rattle.graphql_lexer.specs.Lexical.{is_digit, is_name_start, is_name_continue, is_number_byte, is_sign}
-use Rattle.graphql_lexer.specs.Lexical.{is_indicator, is_source, is_comment_char, is_string_char, is_blank, begins}
-use Rattle.graphql_lexer.specs.Lexical.{three_quotes, escaped_quotes, byte_order_mark}
+use Rattle.graphql_lexer.specs.Lexical.{is_indicator, is_source, is_comment_char, is_string_char, is_blank}
+use Rattle.graphql_lexer.specs.Lexical.{byte_order_mark}
 
 -- how many bytes at the front are digits
 abbrev pub digits : List ℕ → ℕ

@@ -1,6 +1,7 @@
 //! Classes of bytes.
 ghost use Rattle.std.specs.Prelude.{◌≡◌, ◌&&◌, ◌||◌, ◌==◌, not};
-ghost use Rattle.graphql_lexer.specs.Lexical.{is_blank, is_line_end, is_name_continue, is_name_start as name_start};
+ghost use Rattle.graphql_strings.specs.Characters.{is_line_end};
+ghost use Rattle.graphql_lexer.specs.Lexical.{is_blank, is_name_continue, is_name_start as name_start};
 
 // Each byte of a name stands at its own place, a comma at those of a tab, a space and a comma, a plus sign where
 // another ignored token may begin, and a point elsewhere.

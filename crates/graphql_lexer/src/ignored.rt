@@ -1,13 +1,15 @@
 //! What stands between tokens (GraphQL, October 2021, sections 2.1.1 to 2.1.7).
 ghost use Rattle.std.specs.Prelude.{◌≡◌, ◌≤◌, ◌<◌, ◌+◌, ◌^◌, ◌&&◌, not, false, length, option_map};
-ghost use Rattle.graphql_lexer.specs.Lexical.{at, is_blank, is_line_end};
+ghost use Rattle.graphql_strings.specs.Characters.{at, is_line_end};
+ghost use Rattle.graphql_lexer.specs.Lexical.{is_blank};
 ghost use Rattle.graphql_lexer.specs.Places.{Counts};
 ghost use Rattle.graphql_lexer.specs.Scan.{ahead, start_at, IsPast};
 ghost use Rattle.graphql_lexer.specs.Scanning as spec;
 
 use crate::classes::{is_other_ignored, is_space};
 use crate::cursor::Cursor;
-use crate::lexer::{is_line_byte, rest};
+use crate::lexer::is_line_byte;
+use graphql_strings::parts::rest;
 
 /// Goes on from a position to where the next token of the text starts, and returns the text from it on: behind white
 /// space, line terminators, commas, comments and byte order marks.

@@ -1,5 +1,5 @@
 //! The token at the front of a text (GraphQL, October 2021, sections 2.1 and 2.9).
-ghost use Rattle.std.specs.Prelude.{◌≡◌, ◌≤◌, ◌<◌, ◌++◌, ℕ, List, length, drop, option_map, false};
+ghost use Rattle.std.specs.Prelude.{◌≡◌, ◌≤◌, ◌<◌, ◌++◌, ℕ, List, length, option_map, false};
 ghost use Rattle.std.specs.Prelude.{Some, None, true, IfSome, IfOk, MatchResult};
 ghost use Rattle.graphql_lexer.specs.Lexical.{is_comment_char, is_number_byte as number_byte};
 ghost use Rattle.graphql_lexer.specs.Lexemes.{IsFront};
@@ -9,6 +9,7 @@ ghost use Rattle.graphql_lexer.specs.Scanning as spec;
 ghost use Rattle.graphql_lexer.specs.Seen.{seen, seen_at};
 
 use crate::classes::{is_name_byte, is_name_start};
+use graphql_strings::parts::rest;
 use std::str;
 
 /// A token that stands for itself (section 2.1.8).
@@ -382,13 +383,6 @@ fn is_refused(byte: u8) -> bool
     ensures { result ≡ spec.is_refused byte }
 {
     byte < b' ' && !matches!(byte, b'\t' | b'\n' | b'\r')
-}
-
-// The text after `count` bytes.
-pub(crate) fn rest(text: &[u8], count: usize) -> &[u8]
-    ensures { result.now ≡ drop count text.now }
-{
-    text.get(count..).unwrap_or(&[])
 }
 
 // The first `count` bytes as text, if there are that many and they are valid UTF-8.

@@ -1,9 +1,9 @@
 -- What holds while a value is read: the tokens so far lead to what is begun, and spell it.
 use Rattle.std.proofs.Common.{◌≡◌, suc, true, false, List, [], ◌∷◌, ◌++◌, Ok, Err, append_assoc, append-nil, refl, sym, ap, subst, ◌∙◌}
 use Rattle.language_types.specs.declared.position.SourcePosition.{SourcePosition}
+use Rattle.graphql_strings.specs.StringValues.{nothing}
 use Rattle.graphql_lexer.specs.Lexemes.{Lexeme}
 use Rattle.graphql_lexer.specs.Lexical as token
-use Rattle.graphql_lexer.specs.StringValues.{nothing}
 use Rattle.graphql_lexer.specs.declared.lexer.Punctuator.TheVariants.{Dollar, Colon, BracketOpen, BracketClose, BraceOpen, BraceClose}
 use Rattle.value_reader.specs.Grammar.{Rules, lexeme, sign, null_name, Spells, Begins, GoesOn}
 use Rattle.value_reader.specs.Faults.{IsPlaceOf, IsFaultAt}

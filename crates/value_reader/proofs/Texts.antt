@@ -4,9 +4,9 @@ use Rattle.std.proofs.lemmas.Bool.Decides.{nat_tests}
 use Rattle.std.proofs.lemmas.List.{take-append-drop}
 use Rattle.std.proofs.Math.Seq.{drop-append_seam}
 use Rattle.std.specs.Char.{encode_utf8}
-use Rattle.graphql_lexer.specs.StringValues.{is_plain, IsEscape, IsStringValue, nothing, plain, escape}
-use Rattle.graphql_lexer.specs.Unescaping.{escape_at}
-use Rattle.graphql_lexer.proofs.EscapeLaws.{escape_front, escape_read}
+use Rattle.graphql_strings.specs.StringValues.{is_plain, IsEscape, IsStringValue, nothing, plain, escape}
+use Rattle.graphql_strings.specs.Unescaping.{escape_at}
+use Rattle.graphql_strings.proofs.EscapeLaws.{escape_front, escape_read}
 use Rattle.value_reader.specs.Machine.{text_behind, text_from, string_text}
 
 mapped_some : {A B : Type 0} (f : A → B) (o : Option A) (y : B) → option_map f o ≡ Some y → (x : A) × (o ≡ Some x) × (f x ≡ y)

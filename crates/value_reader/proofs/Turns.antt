@@ -1,7 +1,7 @@
 -- What the code finds out of a token, in the words of the machine.
 use Rattle.std.proofs.Common.{◌≡◌, ℕ, false, List, [], ◌∷◌, Option, Some, None, option_map, refl, sym, ap, subst}
 use Rattle.language_types.specs.declared.position.SourcePosition.{SourcePosition}
-use Rattle.graphql_lexer.specs.BlockStrings.{block_string_value}
+use Rattle.graphql_strings.specs.BlockStrings.{block_string_value}
 use Rattle.graphql_lexer.specs.Lexemes.{Lexeme, is_last}
 use Rattle.graphql_lexer.specs.Lexical as token
 use Rattle.graphql_lexer.specs.declared.error.ReadError.{ReadError}

@@ -2,14 +2,14 @@
 use Rattle.std.specs.Prelude.{◌≡◌, ◌⊎◌, ◌+◌, ◌-◌, ◌^◌, ℕ, min, List, [], ◌∷◌, ◌++◌}
 use denote.Ref.{Bor}
 use Rattle.language_types.specs.declared.position.SourcePosition.{SourcePosition}
+use Rattle.graphql_strings.specs.StringFaults.{IsFaultPlace}
+use Rattle.graphql_strings.specs.declared.strings.StringError.{StringError}
+use Rattle.graphql_strings.specs.declared.strings.StringError.TheVariants.{Escape}
+use Rattle.graphql_strings.specs.declared.strings.StringError.TheVariants as s
 use Rattle.graphql_lexer.specs.Lexemes.{Lexeme}
 use Rattle.graphql_lexer.specs.Lexical as token
-use Rattle.graphql_lexer.specs.StringFaults.{IsFaultPlace}
 use Rattle.graphql_lexer.specs.declared.error.ReadError.{ReadError}
 use Rattle.graphql_lexer.specs.declared.error.ReadError.TheVariants.{Syntax, OutOfMemory}
-use Rattle.graphql_lexer.specs.declared.strings.StringError.{StringError}
-use Rattle.graphql_lexer.specs.declared.strings.StringError.TheVariants.{Escape}
-use Rattle.graphql_lexer.specs.declared.strings.StringError.TheVariants as s
 use Rattle.value_reader.specs.Grammar.{Rules, lexeme, IsTextOf, Begins, GoesOn}
 use Rattle.value_reader.specs.Values.{Value}
 

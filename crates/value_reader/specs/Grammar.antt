@@ -3,10 +3,10 @@
 use Rattle.std.specs.Prelude.{◌≡◌, ℕ, suc, Bool, true, false, List, [], ◌∷◌, ◌++◌, Option, Some, None, nat_lt, codes}
 use Rattle.language_types.specs.declared.position.SourcePosition.{SourcePosition}
 use Rattle.language_types.specs.declared.position.Span.{Span}
-use Rattle.graphql_lexer.specs.BlockStrings.{block_string_value}
+use Rattle.graphql_strings.specs.BlockStrings.{block_string_value}
+use Rattle.graphql_strings.specs.StringValues.{IsStringValue}
 use Rattle.graphql_lexer.specs.Lexemes.{Lexeme}
 use Rattle.graphql_lexer.specs.Lexical as token
-use Rattle.graphql_lexer.specs.StringValues.{IsStringValue}
 use Rattle.graphql_lexer.specs.declared.lexer.Punctuator.{Punctuator}
 use Rattle.graphql_lexer.specs.declared.lexer.Punctuator.TheVariants.{Dollar, Colon, BracketOpen, BracketClose}
 use Rattle.graphql_lexer.specs.declared.lexer.Punctuator.TheVariants.{BraceOpen, BraceClose}

@@ -5,11 +5,11 @@ use Rattle.std.specs.Prelude.{Some, None, option_map, Result, Ok, Err, bytes_eq}
 use Rattle.std.specs.Char.{encode_utf8}
 use Rattle.language_types.specs.declared.position.SourcePosition.{SourcePosition}
 use Rattle.language_types.specs.declared.position.Span.{Span}
-use Rattle.graphql_lexer.specs.BlockStrings.{block_string_value}
+use Rattle.graphql_strings.specs.BlockStrings.{block_string_value}
+use Rattle.graphql_strings.specs.StringValues.{is_plain}
+use Rattle.graphql_strings.specs.Unescaping.{escape_at}
 use Rattle.graphql_lexer.specs.Lexemes.{Lexeme}
 use Rattle.graphql_lexer.specs.Lexical as token
-use Rattle.graphql_lexer.specs.StringValues.{is_plain}
-use Rattle.graphql_lexer.specs.Unescaping.{escape_at}
 use Rattle.graphql_lexer.specs.declared.lexer.Punctuator.TheVariants.{Dollar, Colon, BracketOpen, BracketClose}
 use Rattle.graphql_lexer.specs.declared.lexer.Punctuator.TheVariants.{BraceOpen, BraceClose}
 use Rattle.value_reader.specs.Grammar.{Rules, may_nest, boolean_name, null_name}

@@ -1,6 +1,6 @@
 use Rattle.std.proofs.Common.{ℕ, Bool, ◌||◌, ◌==◌, nat_lt, get_or, refl, arith}
+use Rattle.graphql_strings.specs.Characters.{is_line_end}
 use Rattle.graphql_lexer.specs.declared.classes.TheConstants.{BYTES}
-use Rattle.graphql_lexer.specs.Lexical.{is_line_end}
 use Rattle.graphql_lexer.proofs.Tables.{agree_below, agree_at}
 use Rattle.graphql_lexer.proofs.classes.is_other_ignored.Goals as goal
 

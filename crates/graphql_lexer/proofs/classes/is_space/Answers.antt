@@ -1,6 +1,7 @@
 use Rattle.std.proofs.Common.{ℕ, Bool, ◌&&◌, not, nat_eq, get_or, refl, arith}
+use Rattle.graphql_strings.specs.Characters.{is_line_end}
 use Rattle.graphql_lexer.specs.declared.classes.TheConstants.{BYTES}
-use Rattle.graphql_lexer.specs.Lexical.{is_blank, is_line_end}
+use Rattle.graphql_lexer.specs.Lexical.{is_blank}
 use Rattle.graphql_lexer.proofs.Tables.{agree_below, agree_at}
 use Rattle.graphql_lexer.proofs.classes.is_space.Goals as goal
 

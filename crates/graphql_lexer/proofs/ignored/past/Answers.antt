@@ -1,6 +1,7 @@
 use Rattle.std.proofs.Common.{rules, ◌≡◌, ◌∙◌, ◌&&◌, ◌||◌, ◌==◌, not, true, false, refl, arith}
 use Rattle.std.proofs.lemmas.Grind.{common_steps}
-use Rattle.graphql_lexer.specs.Lexical.{at, is_blank, is_line_end}
+use Rattle.graphql_strings.specs.Characters.{at, is_line_end}
+use Rattle.graphql_lexer.specs.Lexical.{is_blank}
 use Rattle.graphql_lexer.specs.Scanning.{ignored_at}
 use Rattle.graphql_lexer.proofs.Skipped.{passes, passed_inline, blank_taken, space_inline, none_there, nothing_else}
 use Rattle.graphql_lexer.proofs.ignored.past.Goals as goal

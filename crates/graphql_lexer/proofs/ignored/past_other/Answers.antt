@@ -1,6 +1,6 @@
 use Rattle.std.proofs.Common.{rules, ◌≡◌, ◌∙◌, refl, sym, arith}
 use Rattle.std.proofs.lemmas.Grind.{common_steps}
-use Rattle.graphql_lexer.specs.Lexical.{at}
+use Rattle.graphql_strings.specs.Characters.{at}
 use Rattle.graphql_lexer.specs.Scanning.{ignored_at}
 use Rattle.graphql_lexer.proofs.Passed.{ignored_within}
 use Rattle.graphql_lexer.proofs.Skipped.{passes, passed_line, none_there, nothing_ignored}

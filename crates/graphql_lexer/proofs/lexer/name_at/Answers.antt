@@ -1,7 +1,7 @@
 use Rattle.std.proofs.Common.{List, subst, sym, ap, take, ◌∙◌, ℕ}
 use Rattle.std.specs.Str.{IsUtf8}
 use Rattle.graphql_lexer.specs.Lexical.{Token, name}
-use Rattle.graphql_lexer.proofs.Runs.{name_utf8, name_there}
+use Rattle.graphql_lexer.proofs.Names.{name_utf8, name_there}
 use Rattle.graphql_lexer.proofs.lexer.name_at.Goals as goal
 
 pub from_utf8_unchecked-name-requires : goal.from_utf8_unchecked-name-requires

@@ -1,6 +1,7 @@
 use Rattle.std.proofs.Common.{◌≡◌, ◌∙◌, true, arith}
 use Rattle.std.proofs.lemmas.Grind.{common_steps}
-use Rattle.graphql_lexer.specs.Lexical.{at, is_name_start}
+use Rattle.graphql_strings.specs.Characters.{at}
+use Rattle.graphql_lexer.specs.Lexical.{is_name_start}
 use Rattle.graphql_lexer.proofs.Names.{named}
 use Rattle.graphql_lexer.proofs.lexer.plain_at.Goals as goal
 
