@@ -253,6 +253,12 @@ module _ (w : World) (e : Bool) where
   pub list_kept : (a : Entry) (list : List Entry) (k : ℕ) (s t u : Search) → Keeps s t → MeetsList w e a list k t u → MeetsList w e a list k s u
   list_kept a list k s t u keeps d = compares_kept w e _ _ _ s t u u keeps d (keeps_self u)
 
+  pub both_kept : (left right : List Entry) (k : ℕ) (s t u : Search) → Keeps s t → MeetsBoth w e left right k t u → MeetsBoth w e left right k s u
+  both_kept left right k s t u keeps d = compares_kept w e _ _ _ s t u u keeps d (keeps_self u)
+
+  pub named_kept : (i j n : ℕ) (s t u : Search) → Keeps s t → MeetsNamed w e i j n t u → MeetsNamed w e i j n s u
+  named_kept i j n s t u keeps d = compares_kept w e _ _ _ s t u u keeps d (keeps_self u)
+
   -- all that a field is compared with, where the others are known to merge with it
   pub others_whole : (a : Entry) (rest others : List Entry) (s t : Search) → AreOthers w e a rest others → MeetsList w e a others 0 s t
       → Compares w e (RowDone w e rest a) (AtRest a rest) (AtRest a rest) s t
