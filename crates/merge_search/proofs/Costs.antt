@@ -107,12 +107,12 @@ module _ (w : World) where
       (sum_by-drop_more (λ (f : Entry). name_cost w i j f.response) ys k no_entry less)
 
   -- a field with some others, and seven for each two
-  list_all : (a : Entry) (fields : List Entry) → list_cost w a fields + 7 * length fields ≡ 8 * (field_weight w a * fields_weight w fields)
+  pub list_all : (a : Entry) (fields : List Entry) → list_cost w a fields + 7 * length fields ≡ 8 * (field_weight w a * fields_weight w fields)
   list_all a [] = omega arith
   list_all a (b ∷ fields) = omega (arith, list_all a fields, sum_by-cons (pair_cost w a) b fields, ap (λ (n : ℕ). field_weight w a * n) (sum_by-cons (field_weight w) b fields))
 
   -- the fields of one list with those of another, and seven for each two
-  lists_all : (left right : List Entry) → sum_by (λ a. list_cost w a right) left + 7 * (length left * length right) ≡ 8 * (fields_weight w left * fields_weight w right)
+  pub lists_all : (left right : List Entry) → sum_by (λ a. list_cost w a right) left + 7 * (length left * length right) ≡ 8 * (fields_weight w left * fields_weight w right)
   lists_all [] right = omega arith
   lists_all (a ∷ left) right =
       omega (arith, lists_all left right, list_all a right, sum_by-cons (λ a. list_cost w a right) a left, ap (λ (n : ℕ). n * fields_weight w right) (sum_by-cons (field_weight w) a left))
@@ -210,12 +210,12 @@ module _ (w : World) where
   pub spends_none : (n : ℕ) (s : Search) → Spends w n s s
   spends_none n s = record { paid = omega arith }
 
-  pub spends_counts : (n : ℕ) (s t : Search) → Compares n s t → Spends w n s t
-  spends_counts n s t c = record { paid = omega (arith, c.judged, credit_same w s t c.pairs c.searched c.repeated) }
+  pub settled_takes : (a b : Entry) (s t : Search) → Compares (settle_cost w a b true) s t → Takes w (pair_cost w a b) s t
+  settled_takes a b s t c = record { paid = omega (arith, c.judged, credit_same w s t c.pairs c.searched c.repeated) }
 
   -- two fields, with what stands below them
   pub fields_spend : (a b : Entry) (ts us : List Task) (s u t v : Search) → Compares (settle_cost w a b false) s u → Keeps u t → CountsStay u t → ts ≡ []
-      → CostsMore w (8 * (below_weight w a * below_weight w b)) ts us → Takes w (tasks_cost w us) t v → Spends w (field_weight w a * field_weight w b) s v
+      → CostsMore w (8 * (below_weight w a * below_weight w b)) ts us → Takes w (tasks_cost w us) t v → Takes w (pair_cost w a b) s v
   fields_spend a b ts us s u t v looked k c none more p = record {
     paid = omega (
       arith,

@@ -229,7 +229,7 @@ module _ (w : World) (e : Bool) where
   pub searches_full : (D : Search → Type 0) (P : Root → Type 0) (s : Search) → (HasRoom w s.found.items → ⊥) → Searches w e D P s s
   searches_full D P s full = record { done = did_full w D s full; real = adds_none w e P s.found.items }
 
-keeps_self : (s : Search) → Keeps s s
+pub keeps_self : (s : Search) → Keeps s s
 keeps_self s = record { pairs = refl; searched = refl; found = refl; compared = refl; opened = refl; looked = refl; lists = refl; repeated = refl }
 
 -- a field and one of a list

@@ -32,12 +32,7 @@ pub struct Kind {
 }
 
 // Whether a field is known to be of one of some kinds.
-fn is_of_kind<J: Judge>(
-    graph: &Graph<J>,
-    kinds: &[usize],
-    field: usize,
-    budget: &mut usize,
-) -> bool
+fn is_of_kind<J: Judge>(graph: &Graph<J>, kinds: &[usize], field: usize, budget: &mut usize) -> bool
     ensures kind { OnTrue result (IsOfKind (J.are_kin graph.now.judge) kinds.now field) }
     ensures asks { Asks (length kinds.now) (result ≡ false) budget.old budget.new }
     ensures spent { budget.new ≤ budget.old }
@@ -250,7 +245,15 @@ pub fn agreeing_rows<J: Judge>(
     if left.len() < FEW || right.len() < FEW {
         return Ok(BitSet::new(alloc));
     }
-    rows_by_kinds(alloc, graph, e, left, right, MOST.min(right.len() / 4), budget)
+    rows_by_kinds(
+        alloc,
+        graph,
+        e,
+        left,
+        right,
+        MOST.min(right.len() / 4),
+        budget,
+    )
 }
 
 /// Whether all numbers below one are in a set.
