@@ -29,6 +29,10 @@ pub record StandFor (j : Judgement) (kinds : List ℕ) (fields : List Entry) (nu
 abbrev pub AgreeKinds : Judgement → Bool → ℕ → List ℕ → BitSet → Type 0
 AgreeKinds j e one kinds set = (i other : ℕ) → has set i ≡ true → slice_get kinds i ≡ Some other → j.conflict e one other ≡ false
 
+-- No number is in the set.
+abbrev pub IsEmpty : BitSet → Type 0
+IsEmpty set = (i : ℕ) → has set i ≡ false
+
 -- The number at a place is told, and in the set.
 abbrev pub IsNumberIn : List (Option ℕ) → BitSet → ℕ → Type 0
 IsNumberIn numbers set l = (i : ℕ) × (get_or numbers l None ≡ Some i) × (has set i ≡ true)

@@ -5,6 +5,7 @@ ghost use Rattle.std.specs.Bool.{OnTrue};
 ghost use Rattle.std.specs.List.{All, Contains};
 ghost use Rattle.merge_certificates.specs.Below.{IsIndexed, IsKnownBelow, IsPassedAt, KnowsBelow, KnowsPairs};
 ghost use Rattle.merge_certificates.specs.Near.{IsApartRow};
+ghost use Rattle.merge_certificates.specs.Touched.{KnowsTouched};
 ghost use Rattle.merge_sets.specs.Clear.{IsSumWithin, MergeBelow};
 ghost use Rattle.merge_certificates.specs.Failing.{AgreeAt};
 ghost use Rattle.merge_sets.specs.Merging.{Merges};
@@ -56,18 +57,19 @@ fn add_places<J: Judge>(
     fields: &[Entry],
     from: usize,
     to: usize,
-    left: &mut usize,
     good: &mut Vec<usize>,
+    budget: &mut usize,
 ) -> Result<bool, AllocError>
-    ensures { let w = world J.judgement graph.now in
+    ensures merge { let w = world J.judgement graph.now in
         OnOk result (MergeBelow w e fields.now good.old.items → MergeBelow w e fields.now good.new.items) }
+    ensures spent { budget.new ≤ budget.old }
 {
     let mut more = Vec::from_slice(alloc, good.as_slice())?;
     for k in from..to {
         more.push(k)?;
     }
     let entries = entries_at(alloc, fields, more.as_slice())?;
-    let is_clear = are_clear_below(alloc, graph, e, entries.as_slice(), left)?;
+    let is_clear = are_clear_below(alloc, graph, e, entries.as_slice(), budget)?;
     if !is_clear {
         return Ok(false);
     }
@@ -82,18 +84,19 @@ fn good_places<J: Judge>(
     graph: &Graph<J>,
     e: bool,
     fields: &[Entry],
-    most: usize,
+    budget: &mut usize,
 ) -> Result<Vec<usize>, AllocError>
-    ensures { IfOk result (λ v. MergeBelow (world J.judgement graph.now) e fields.now v.items) }
+    ensures merge { IfOk result (λ v. MergeBelow (world J.judgement graph.now) e fields.now v.items) }
+    ensures spent { budget.new ≤ budget.old }
 {
     let mut good = Vec::new(alloc);
-    let mut left = most;
+    let mut left = *budget;
     let mut next: usize = 0;
     let mut size = fields.len();
     while left > 0 && next < fields.len() {
         let end = fields.len().min(next.saturating_add(size));
         let mut rest = left.saturating_sub(good.len()).saturating_sub(size);
-        let is_good = add_places(alloc, graph, e, fields, next, end, &mut rest, &mut good)?;
+        let is_good = add_places(alloc, graph, e, fields, next, end, &mut good, &mut rest)?;
         left = rest.min(left - 1);
         if is_good {
             next = end;
@@ -104,6 +107,7 @@ fn good_places<J: Judge>(
             next = next.saturating_add(1);
         }
     }
+    *budget = left.min(*budget);
     Ok(good)
 }
 
@@ -140,19 +144,37 @@ fn leaves_few(alloc: Global, fields: &[Entry], below: &Below) -> Result<bool, Al
     Ok(others < fields.len())
 }
 
+// Which names stand below each of some fields, for half of the budget at most.
+fn touched_by_half<J: Judge>(
+    alloc: Global,
+    graph: &Graph<J>,
+    e: bool,
+    fields: &[Entry],
+    budget: &mut usize,
+) -> Result<Touched, AllocError>
+    ensures knows { IfOk result (KnowsTouched (world J.judgement graph.now) e fields.now) }
+    ensures spent { budget.new ≤ budget.old }
+{
+    let mut half = *budget / 2;
+    let kept = *budget - half;
+    let touched = touched_below(alloc, graph, e, fields, &mut half)?;
+    *budget = kept + half;
+    Ok(touched)
+}
+
 // What is known where not all merges.
 fn some_known<J: Judge>(
     alloc: Global,
     graph: &Graph<J>,
     e: bool,
     fields: &[Entry],
-    most: usize,
+    budget: &mut usize,
 ) -> Result<Below, AllocError>
     ensures knows { IfOk result (KnowsBelow (world J.judgement graph.now) e fields.now) }
     ensures indexed { IfOk result (λ below. IsIndexed below (length fields.now)) }
+    ensures spent { budget.new ≤ budget.old }
 {
-    let mut half = most / 2;
-    let touched = touched_below(alloc, graph, e, fields, &mut half)?;
+    let touched = touched_by_half(alloc, graph, e, fields, budget)?;
     let near = near_of(alloc, &touched, fields.len())?;
     let below = Below {
         of_all: false,
@@ -163,7 +185,7 @@ fn some_known<J: Judge>(
     if leaves_few(alloc, fields, &below)? {
         return Ok(below);
     }
-    let good = good_places(alloc, graph, e, fields, most / 2)?;
+    let good = good_places(alloc, graph, e, fields, budget)?;
     let places = set_of_numbers(alloc, good.as_slice())?;
     Ok(Below {
         of_all: false,
@@ -173,8 +195,8 @@ fn some_known<J: Judge>(
     })
 }
 
-/// What is known of what stands below some fields, nothing where they are few. It looks at no more fields and sets than
-/// `most`.
+/// What is known of what stands below some fields, nothing where they are few. What it looks at and asks is taken off the
+/// budget.
 ///
 /// # Errors
 ///
@@ -184,20 +206,20 @@ pub fn known_below<J: Judge>(
     graph: &Graph<J>,
     e: bool,
     fields: &[Entry],
-    most: usize,
+    budget: &mut usize,
 ) -> Result<Below, AllocError>
     ensures knows { IfOk result (KnowsBelow (world J.judgement graph.now) e fields.now) }
     ensures indexed { IfOk result (λ below. IsIndexed below (length fields.now)) }
+    ensures spent { budget.new ≤ budget.old }
 {
     if fields.len() < WIDE {
         return Ok(all_or_nothing(alloc, false));
     }
-    let mut left = most;
-    let of_all = are_clear_below(alloc, graph, e, fields, &mut left)?;
+    let of_all = are_clear_below(alloc, graph, e, fields, budget)?;
     if of_all {
         return Ok(all_or_nothing(alloc, true));
     }
-    some_known(alloc, graph, e, fields, left)
+    some_known(alloc, graph, e, fields, budget)
 }
 
 // Whether it is known that what stands below the fields at two places merges.
@@ -306,7 +328,8 @@ fn others_near(
     Ok(others)
 }
 
-/// The fields from a place on that aren't known to merge with the one at another place.
+/// The fields from a place on that aren't known to merge with the one at another place. What is asked of their kinds is
+/// taken off the budget.
 ///
 /// # Errors
 ///
@@ -321,6 +344,7 @@ pub fn others_from<J: Judge>(
     is_clear: bool,
     below: &Below,
     numbered: &Numbered,
+    budget: &mut usize,
 ) -> Result<Vec<Entry>, AllocError>
     requires { OnTrue is_clear
         (AgreeAt (J.judgement graph.now.judge) e fields.now numbered.now.numbers.items k None) }
@@ -329,8 +353,9 @@ pub fn others_from<J: Judge>(
         → slice_get fields.now k ≡ Some a → slice_get fields.now l ≡ Some b → Contains v.items b ⊎ Merges w e a b) }
     ensures only { IfOk result (λ v. All (λ b. (l : ℕ) × (from ≤ l) × (slice_get fields.now l ≡ Some b)) v.items) }
     ensures once { IfOk result (λ v. IsSumWithin v.items (drop from fields.now)) }
+    ensures spent { budget.new ≤ budget.old }
 {
-    let agreeing = agreeing_at(alloc, graph, e, fields, numbered, k, is_clear)?;
+    let agreeing = agreeing_at(alloc, graph, e, fields, numbered, k, is_clear, budget)?;
     let numbers = numbered.numbers.as_slice();
     let others = others_near(alloc, fields, k, from, below, numbers, &agreeing)?;
     Ok(others)

@@ -1,5 +1,5 @@
 //! Fields between which a search finds nothing, known of many at once.
-ghost use Rattle.std.specs.Prelude.{◌≡◌, ◌⊎◌, ℕ, IfOk, None, Some, slice_get, true};
+ghost use Rattle.std.specs.Prelude.{◌≡◌, ◌≤◌, ◌⊎◌, ℕ, IfOk, None, Some, slice_get, true};
 ghost use Rattle.std.specs.Bool.{OnTrue};
 ghost use Rattle.bit_matrix.specs.Set.{has};
 ghost use Rattle.merge_sets.specs.Judgement.{NoneConflict};
@@ -30,18 +30,20 @@ fn are_quiet_below<J: Judge>(
     e: bool,
     by_objects: bool,
     fields: &[Entry],
-    left: &mut usize,
+    budget: &mut usize,
 ) -> Result<bool, AllocError>
-    ensures { IfOk result (λ b. OnTrue b (AreClearBelow (world J.judgement graph.now) e fields.now fields.now)) }
+    ensures clear { IfOk result (λ b.
+        OnTrue b (AreClearBelow (world J.judgement graph.now) e fields.now fields.now)) }
+    ensures spent { budget.new ≤ budget.old }
 {
     let mut unions = Vec::new(alloc);
     unions_below(alloc, graph, e, by_objects, fields, &mut unions)?;
-    let is_quiet = are_quiet(alloc, graph, unions, by_objects, left)?;
+    let is_quiet = are_quiet(alloc, graph, unions, by_objects, budget)?;
     Ok(is_quiet)
 }
 
 /// Whether what stands below each two of some fields is known to merge. `false` says nothing. It takes what it has
-/// looked at there off what is `left`.
+/// looked at there, and what it has asked, off the budget.
 ///
 /// # Errors
 ///
@@ -51,29 +53,34 @@ pub fn are_clear_below<J: Judge>(
     graph: &Graph<J>,
     e: bool,
     fields: &[Entry],
-    left: &mut usize,
+    budget: &mut usize,
 ) -> Result<bool, AllocError>
-    ensures { IfOk result (λ b. OnTrue b (AreClearBelow (world J.judgement graph.now) e fields.now fields.now)) }
+    ensures clear { IfOk result (λ b.
+        OnTrue b (AreClearBelow (world J.judgement graph.now) e fields.now fields.now)) }
+    ensures spent { budget.new ≤ budget.old }
 {
     if are_leaves(fields) {
         return Ok(true);
     }
-    if are_quiet_below(alloc, graph, e, false, fields, left)? {
+    if are_quiet_below(alloc, graph, e, false, fields, budget)? {
         return Ok(true);
     }
-    let is_quiet = are_quiet_below(alloc, graph, e, true, fields, left)?;
+    let is_quiet = are_quiet_below(alloc, graph, e, true, fields, budget)?;
     Ok(is_quiet)
 }
 
-// Whether what stands below the fields of two lists is known to merge. It takes no longer than comparing them would.
+// Whether what stands below the fields of two lists is known to merge.
 fn are_clear_between<J: Judge>(
     alloc: Global,
     graph: &Graph<J>,
     e: bool,
     left: &[Entry],
     right: &[Entry],
+    budget: &mut usize,
 ) -> Result<bool, AllocError>
-    ensures { IfOk result (λ b. OnTrue b (AreClearBelow (world J.judgement graph.now) e left.now right.now)) }
+    ensures clear { IfOk result (λ b.
+        OnTrue b (AreClearBelow (world J.judgement graph.now) e left.now right.now)) }
+    ensures spent { budget.new ≤ budget.old }
 {
     if are_leaves(left) {
         return Ok(true);
@@ -81,13 +88,12 @@ fn are_clear_between<J: Judge>(
     if are_leaves(right) {
         return Ok(true);
     }
-    let mut pairs = left.len().saturating_mul(right.len());
-    if pairs < MANY {
+    if left.len().saturating_mul(right.len()) < MANY {
         return Ok(false);
     }
     let mut fields = Vec::from_slice(alloc, left)?;
     fields.extend_from_slice(right)?;
-    let is_clear = are_clear_below(alloc, graph, e, fields.as_slice(), &mut pairs)?;
+    let is_clear = are_clear_below(alloc, graph, e, fields.as_slice(), budget)?;
     Ok(is_clear)
 }
 
@@ -98,16 +104,19 @@ fn are_agreeing<J: Judge>(
     e: bool,
     left: &[Entry],
     right: &[Entry],
+    budget: &mut usize,
 ) -> Result<bool, AllocError>
-    ensures { IfOk result (λ b. OnTrue b (NoneConflict (J.judgement graph.now.judge) e left.now right.now)) }
+    ensures agree { IfOk result (λ b. OnTrue b (NoneConflict (J.judgement graph.now.judge) e left.now right.now)) }
+    ensures spent { budget.new ≤ budget.old }
 {
-    if agree_plainly(graph, left, right) {
+    if agree_plainly(graph, left, right, budget) {
         return Ok(true);
     }
-    agree_by_kinds(alloc, graph, e, left, right)
+    agree_by_kinds(alloc, graph, e, left, right, budget)
 }
 
-/// Whether each field of the one list is known to merge with each of the other. `false` says nothing.
+/// Whether each field of the one list is known to merge with each of the other. `false` says nothing. What it asks and
+/// looks at is taken off the budget.
 ///
 /// # Errors
 ///
@@ -118,13 +127,15 @@ pub fn are_clear<J: Judge>(
     e: bool,
     left: &[Entry],
     right: &[Entry],
+    budget: &mut usize,
 ) -> Result<bool, AllocError>
-    ensures { IfOk result (λ b. OnTrue b (AreClear (world J.judgement graph.now) e left.now right.now)) }
+    ensures clear { IfOk result (λ b. OnTrue b (AreClear (world J.judgement graph.now) e left.now right.now)) }
+    ensures spent { budget.new ≤ budget.old }
 {
-    if !are_agreeing(alloc, graph, e, left, right)? {
+    if !are_agreeing(alloc, graph, e, left, right, budget)? {
         return Ok(false);
     }
-    let is_clear = are_clear_between(alloc, graph, e, left, right)?;
+    let is_clear = are_clear_between(alloc, graph, e, left, right, budget)?;
     Ok(is_clear)
 }
 
@@ -135,16 +146,17 @@ fn rows_below<J: Judge>(
     e: bool,
     left: &[Entry],
     right: &[Entry],
+    budget: &mut usize,
 ) -> Result<BitSet, AllocError>
-    ensures { IfOk result (AreClearRowsBelow (world J.judgement graph.now) e left.now right.now) }
+    ensures rows { IfOk result (AreClearRowsBelow (world J.judgement graph.now) e left.now right.now) }
+    ensures spent { budget.new ≤ budget.old }
 {
-    let mut pairs = left.len().saturating_mul(right.len());
-    if pairs < MANY {
+    if left.len().saturating_mul(right.len()) < MANY {
         return Ok(BitSet::new(alloc));
     }
     let mut fields = Vec::from_slice(alloc, left)?;
     fields.extend_from_slice(right)?;
-    let touched = touched_below(alloc, graph, e, fields.as_slice(), &mut pairs)?;
+    let touched = touched_below(alloc, graph, e, fields.as_slice(), budget)?;
     rows_apart(alloc, &touched, left.len(), fields.len())
 }
 
@@ -181,7 +193,7 @@ fn is_of_both(field: Entry, k: usize, rows: &BitSet, below: &BitSet) -> bool
 }
 
 /// The places of fields of which it is known that they merge with each of some others. Of a place that isn't listed
-/// nothing is said.
+/// nothing is said. What it asks and looks at is taken off the budget.
 ///
 /// # Errors
 ///
@@ -192,17 +204,19 @@ pub fn clear_rows<J: Judge>(
     e: bool,
     left: &[Entry],
     right: &[Entry],
+    budget: &mut usize,
 ) -> Result<BitSet, AllocError>
-    ensures { IfOk result (AreClearRows (world J.judgement graph.now) e left.now right.now) }
+    ensures rows { IfOk result (AreClearRows (world J.judgement graph.now) e left.now right.now) }
+    ensures spent { budget.new ≤ budget.old }
 {
     if left.len() < FEW || right.len() < FEW {
         return Ok(BitSet::new(alloc));
     }
-    let rows = agreeing_rows(alloc, graph, e, left, right)?;
-    if are_clear_between(alloc, graph, e, left, right)? {
+    let rows = agreeing_rows(alloc, graph, e, left, right, budget)?;
+    if are_clear_between(alloc, graph, e, left, right, budget)? {
         return Ok(rows);
     }
-    let below = rows_below(alloc, graph, e, left, right)?;
+    let below = rows_below(alloc, graph, e, left, right, budget)?;
     let both = rows_of_both(alloc, left, &rows, &below)?;
     Ok(both)
 }

@@ -1,10 +1,12 @@
 //! Fields that fail with one of some, told by their kinds.
-ghost use Rattle.std.specs.Prelude.{◌≡◌, IfOk, IfSome, None, Some, get_or};
+ghost use Rattle.std.specs.Prelude.{◌≡◌, ◌≤◌, IfOk, IfSome, None, Some, get_or, length};
 ghost use Rattle.std.specs.Bool.{OnTrue};
 ghost use Rattle.merge_certificates.specs.Failing.{AgreeAt, AgreeKinds, AgreesBy, AreNumbered, IsKindAt, IsNumberIn};
-ghost use Rattle.merge_certificates.specs.Failing.{StandFor};
+ghost use Rattle.merge_certificates.specs.Failing.{IsEmpty, StandFor};
+ghost use Rattle.merge_sets.specs.Budget.{Asks};
 
 use bit_matrix::set::BitSet;
+use merge_sets::budget::take_questions;
 use merge_sets::graph::Graph;
 use merge_sets::judge::Judge;
 use merge_sets::kinds::{FEW, MOST, are_all_in, kinds_of};
@@ -19,9 +21,19 @@ pub struct Numbered {
 }
 
 // The number of the kind of a field, if it is among these.
-fn number_of<J: Judge>(graph: &Graph<J>, kinds: &[usize], field: usize) -> Option<usize>
-    ensures { IfSome result (λ i. IsKindAt (J.are_kin graph.now.judge) kinds.now field i) }
+fn number_of<J: Judge>(
+    graph: &Graph<J>,
+    kinds: &[usize],
+    field: usize,
+    budget: &mut usize,
+) -> Option<usize>
+    ensures kind { IfSome result (λ i. IsKindAt (J.are_kin graph.now.judge) kinds.now field i) }
+    ensures asks { Asks (length kinds.now) (result ≡ None) budget.old budget.new }
+    ensures spent { budget.new ≤ budget.old }
 {
+    if !take_questions(budget, kinds.len()) {
+        return None;
+    }
     for i in 0..kinds.len() {
         if graph.judge.is_kin(kinds[i], field) {
             return Some(i);
@@ -36,18 +48,20 @@ fn numbers_of<J: Judge>(
     graph: &Graph<J>,
     kinds: &[usize],
     fields: &[Entry],
+    budget: &mut usize,
 ) -> Result<Vec<Option<usize>>, AllocError>
-    ensures { IfOk result (λ v. AreNumbered (J.are_kin graph.now.judge) kinds.now fields.now v.items) }
+    ensures numbers { IfOk result (λ v. AreNumbered (J.are_kin graph.now.judge) kinds.now fields.now v.items) }
+    ensures spent { budget.new ≤ budget.old }
 {
     let mut numbers = Vec::new(alloc);
     for k in 0..fields.len() {
-        numbers.push(number_of(graph, kinds, fields[k].field))?;
+        numbers.push(number_of(graph, kinds, fields[k].field, budget))?;
     }
     Ok(numbers)
 }
 
 /// The kinds of some fields by number. Nothing is told where there are few fields, or too many kinds, or where all
-/// places are listed.
+/// places are listed. What is asked is taken off the budget, and where that hasn't enough, less is told.
 ///
 /// # Errors
 ///
@@ -57,8 +71,11 @@ pub fn numbered_kinds<J: Judge>(
     graph: &Graph<J>,
     fields: &[Entry],
     listed: &BitSet,
+    budget: &mut usize,
 ) -> Result<Numbered, AllocError>
-    ensures { IfOk result (λ n. StandFor (J.judgement graph.now.judge) n.kinds.items fields.now n.numbers.items) }
+    ensures stand { IfOk result (λ n.
+        StandFor (J.judgement graph.now.judge) n.kinds.items fields.now n.numbers.items) }
+    ensures spent { budget.new ≤ budget.old }
 {
     let none = Numbered {
         kinds: Vec::new(alloc),
@@ -67,10 +84,11 @@ pub fn numbered_kinds<J: Judge>(
     if fields.len() < FEW || are_all_in(listed, fields.len()) {
         return Ok(none);
     }
-    let Some(kinds) = kinds_of(alloc, graph, fields, MOST.min(fields.len() / 4))? else {
+    let most = MOST.min(fields.len() / 4);
+    let Some(kinds) = kinds_of(alloc, graph, fields, most, budget)? else {
         return Ok(none);
     };
-    let numbers = numbers_of(alloc, graph, kinds.as_slice(), fields)?;
+    let numbers = numbers_of(alloc, graph, kinds.as_slice(), fields, budget)?;
     Ok(Numbered { kinds, numbers })
 }
 
@@ -81,10 +99,16 @@ fn agreeing_kinds<J: Judge>(
     e: bool,
     one: usize,
     kinds: &[usize],
+    budget: &mut usize,
 ) -> Result<BitSet, AllocError>
-    ensures { IfOk result (λ set. AgreeKinds (J.judgement graph.now.judge) e one kinds.now set) }
+    ensures agree { IfOk result (λ set. AgreeKinds (J.judgement graph.now.judge) e one kinds.now set) }
+    ensures asks { IfOk result (λ set. Asks (length kinds.now) (IsEmpty set) budget.old budget.new) }
+    ensures spent { budget.new ≤ budget.old }
 {
     let mut set = BitSet::new(alloc);
+    if !take_questions(budget, kinds.len()) {
+        return Ok(set);
+    }
     for i in 0..kinds.len() {
         if !graph.judge.are_in_conflict(e, one, kinds[i])? {
             set.insert(i)?;
@@ -121,10 +145,12 @@ fn agreeing_with<J: Judge>(
     fields: &[Entry],
     numbered: &Numbered,
     k: usize,
+    budget: &mut usize,
 ) -> Result<BitSet, AllocError>
-    ensures { let j = J.judgement graph.now.judge in let n = numbered.now in
+    ensures agree { let j = J.judgement graph.now.judge in let n = numbered.now in
         IfOk result (λ set. StandFor j n.kinds.items fields.now n.numbers.items
         → AgreeAt j e fields.now n.numbers.items k (Some set)) }
+    ensures spent { budget.new ≤ budget.old }
 {
     let Some(i) = number_at(numbered.numbers.as_slice(), k) else {
         return Ok(BitSet::new(alloc));
@@ -132,11 +158,12 @@ fn agreeing_with<J: Judge>(
     let Some(one) = numbered.kinds.get(i) else {
         return Ok(BitSet::new(alloc));
     };
-    let set = agreeing_kinds(alloc, graph, e, *one, numbered.kinds.as_slice())?;
+    let set = agreeing_kinds(alloc, graph, e, *one, numbered.kinds.as_slice(), budget)?;
     Ok(set)
 }
 
 /// The numbers of the kinds with which the field at a place doesn't fail. None where it is known to fail with no field.
+/// What is asked is taken off the budget, and where that hasn't enough, no number is told.
 ///
 /// # Errors
 ///
@@ -149,17 +176,19 @@ pub fn agreeing_at<J: Judge>(
     numbered: &Numbered,
     k: usize,
     is_clear: bool,
+    budget: &mut usize,
 ) -> Result<Option<BitSet>, AllocError>
     requires { OnTrue is_clear
         (AgreeAt (J.judgement graph.now.judge) e fields.now numbered.now.numbers.items k None) }
-    ensures { let j = J.judgement graph.now.judge in let n = numbered.now in
+    ensures agree { let j = J.judgement graph.now.judge in let n = numbered.now in
         IfOk result (λ agreeing. StandFor j n.kinds.items fields.now n.numbers.items
         → AgreeAt j e fields.now n.numbers.items k agreeing) }
+    ensures spent { budget.new ≤ budget.old }
 {
     if is_clear {
         return Ok(None);
     }
-    let set = agreeing_with(alloc, graph, e, fields, numbered, k)?;
+    let set = agreeing_with(alloc, graph, e, fields, numbered, k, budget)?;
     Ok(Some(set))
 }
 

@@ -2,7 +2,7 @@
 //!
 //! The sets are written out as one, and under each response name the sets below its fields in turn. So each field is
 //! looked at once where a search compares it with all others.
-ghost use Rattle.std.specs.Prelude.{◌≡◌, ◌<◌, ◌⊎◌, ℕ, Bool, IfOk, IfSome, OnOk, false, length, true};
+ghost use Rattle.std.specs.Prelude.{◌≡◌, ◌<◌, ◌≤◌, ◌⊎◌, ℕ, Bool, IfOk, IfSome, OnOk, false, length, true};
 ghost use Rattle.std.specs.Bool.{OnTrue};
 ghost use Rattle.std.specs.List.{All, Contains};
 ghost use Rattle.merge_sets.specs.Judgement.{NoneConflict};
@@ -136,18 +136,20 @@ fn agree_from<J: Judge>(
     graph: &Graph<J>,
     x: bool,
     fields: &[Entry],
+    budget: &mut usize,
 ) -> Result<bool, AllocError>
-    ensures { IfOk result (λ b. OnTrue b
+    ensures agree { IfOk result (λ b. OnTrue b
         ((e : Bool) → IsFrom x e → NoneConflict (J.judgement graph.now.judge) e fields.now fields.now)) }
+    ensures spent { budget.new ≤ budget.old }
 {
-    if agree_plainly(graph, fields, fields) {
+    if agree_plainly(graph, fields, fields, budget) {
         return Ok(true);
     }
-    let is_found = agree_together(alloc, graph, true, fields)?;
+    let is_found = agree_together(alloc, graph, true, fields, budget)?;
     if x || !is_found {
         return Ok(is_found);
     }
-    agree_together(alloc, graph, false, fields)
+    agree_together(alloc, graph, false, fields, budget)
 }
 
 /// Response names that are set apart, and how many more may be.
@@ -190,13 +192,15 @@ fn agree_or_apart<J: Judge>(
     name: usize,
     group: &[Entry],
     apart: &mut Apart,
+    budget: &mut usize,
 ) -> Result<bool, AllocError>
     ensures kept { OnOk result (AreKept apart.old.names apart.new.names) }
     ensures agree { IfOk result (λ b. OnTrue b (has apart.new.names name ≡ false → (e : Bool) → IsFrom x e
         → NoneConflict (J.judgement graph.now.judge) e group.now group.now)) }
     ensures full { OnOk result (apart.old.room ≡ 0 → apart.new ≡ apart.old) }
+    ensures spent { budget.new ≤ budget.old }
 {
-    if agree_from(alloc, graph, x, group)? {
+    if agree_from(alloc, graph, x, group, budget)? {
         return Ok(true);
     }
     set_apart(apart, name)
@@ -213,6 +217,7 @@ fn is_quiet_group<J: Judge>(
     group: &[Entry],
     apart: &mut Apart,
     waiting: &mut Vec<Union>,
+    budget: &mut usize,
 ) -> Result<bool, AllocError>
     requires { All (λ a. a.response ≡ name) group.now }
     ensures kept { OnOk result (AreKept apart.old.names apart.new.names) }
@@ -220,8 +225,9 @@ fn is_quiet_group<J: Judge>(
         IfOk result (λ b. OnTrue b ((l : ℕ → Bool) → Covers l apart.new.names
         → AllQuietBut w l waiting.new.items → AllQuietBut w l waiting.old.items × AllMergeBut w l x group.now)) }
     ensures full { OnOk result (apart.old.room ≡ 0 → apart.new ≡ apart.old) }
+    ensures spent { budget.new ≤ budget.old }
 {
-    if !agree_or_apart(alloc, graph, x, name, group, apart)? {
+    if !agree_or_apart(alloc, graph, x, name, group, apart, budget)? {
         return Ok(false);
     }
     unions_below(alloc, graph, x, by_objects, group, waiting)?;
@@ -237,6 +243,7 @@ fn is_quiet_set<J: Judge>(
     set: &SetNode,
     apart: &mut Apart,
     waiting: &mut Vec<Union>,
+    budget: &mut usize,
 ) -> Result<bool, AllocError>
     ensures kept { OnOk result (AreKept apart.old.names apart.new.names) }
     ensures quiet { let w = world J.judgement graph.now in
@@ -244,11 +251,14 @@ fn is_quiet_set<J: Judge>(
         → AllQuietBut w l waiting.new.items
         → AllQuietBut w l waiting.old.items × AllMergeBut w l x set.now.own.items)) }
     ensures full { OnOk result (apart.old.room ≡ 0 → apart.new ≡ apart.old) }
+    ensures spent { budget.new ≤ budget.old }
 {
     for first in first_fields(set) {
         let name = first.response;
         let group = fields_named(sorted_fields(set), name);
-        if !is_quiet_group(alloc, graph, x, by_objects, name, group, apart, waiting)? {
+        if !is_quiet_group(
+            alloc, graph, x, by_objects, name, group, apart, waiting, budget,
+        )? {
             return Ok(false);
         }
     }
@@ -256,9 +266,9 @@ fn is_quiet_set<J: Judge>(
 }
 
 /// Whether all that stands in the sets of each union, what they spread written out, is known to merge, names aside that
-/// are set apart. `false` says nothing. It looks at no more fields and sets than are `left`, and takes off those that
-/// it has looked at. Fields may be told apart by their object types: then more is known, and some sets are looked at
-/// for each type.
+/// are set apart. `false` says nothing. It takes the fields and sets that it looks at, and what it asks, off the budget,
+/// and stops where nothing is left. Fields may be told apart by their object types: then more is known, and some sets are
+/// looked at for each type.
 ///
 /// # Errors
 ///
@@ -269,17 +279,18 @@ pub fn are_quiet_but<J: Judge>(
     unions: Vec<Union>,
     by_objects: bool,
     apart: &mut Apart,
-    left: &mut usize,
+    budget: &mut usize,
 ) -> Result<bool, AllocError>
     ensures quiet { IfOk result (λ b. OnTrue b ((l : ℕ → Bool) → Covers l apart.new.names
         → AllQuietBut (world J.judgement graph.now) l unions.items)) }
     ensures full { OnOk result (apart.old.room ≡ 0 → apart.new ≡ apart.old) }
+    ensures spent { budget.new ≤ budget.old }
 {
     let mut waiting = unions;
-    let mut rest = *left;
+    let mut rest = *budget;
     while rest > 0 {
         let Some(next) = waiting.pop() else {
-            *left = rest;
+            *budget = rest;
             return Ok(true);
         };
         let Some((set, size)) = united(alloc, graph, next.sets.as_slice(), rest)? else {
@@ -294,17 +305,18 @@ pub fn are_quiet_but<J: Judge>(
             &set,
             apart,
             &mut waiting,
+            &mut rest,
         )? {
-            *left = rest;
+            *budget = rest;
             return Ok(false);
         }
     }
-    *left = rest;
+    *budget = rest;
     Ok(false)
 }
 
 /// Whether all that stands in the sets of each union, what they spread written out, is known to merge. `false` says
-/// nothing. It looks at no more fields and sets than are `left`, and takes off those that it has looked at.
+/// nothing. It takes the fields and sets that it looks at, and what it asks, off the budget.
 ///
 /// # Errors
 ///
@@ -314,11 +326,12 @@ pub fn are_quiet<J: Judge>(
     graph: &Graph<J>,
     unions: Vec<Union>,
     by_objects: bool,
-    left: &mut usize,
+    budget: &mut usize,
 ) -> Result<bool, AllocError>
-    ensures { IfOk result (λ b. OnTrue b (AllQuiet (world J.judgement graph.now) unions.items)) }
+    ensures quiet { IfOk result (λ b. OnTrue b (AllQuiet (world J.judgement graph.now) unions.items)) }
+    ensures spent { budget.new ≤ budget.old }
 {
     let mut apart = none_apart(alloc, 0);
-    let is_quiet = are_quiet_but(alloc, graph, unions, by_objects, &mut apart, left)?;
+    let is_quiet = are_quiet_but(alloc, graph, unions, by_objects, &mut apart, budget)?;
     Ok(is_quiet)
 }

@@ -70,24 +70,25 @@ fn is_listed(list: &[usize], number: usize) -> bool
 }
 
 // The names, of some, that stand in some sets or below, if these are no more than `most`. It takes what it looks at off
-// what is `left`; none where that isn't enough.
+// the budget; none where that isn't enough.
 fn names_in<J: Judge>(
     alloc: Global,
     graph: &Graph<J>,
     sets: Vec<usize>,
     names: &BitSet,
     most: usize,
-    left: &mut usize,
+    budget: &mut usize,
 ) -> Result<Option<Vec<usize>>, AllocError>
-    ensures { let w = world J.judgement graph.now in IfOk result (λ o. IfSome o (λ v.
+    ensures names { let w = world J.judgement graph.now in IfOk result (λ o. IfSome o (λ v.
         All (λ s. ListsAll w names.now s v.items) sets.items)) }
+    ensures spent { budget.new ≤ budget.old }
 {
     let mut waiting = sets;
     let mut found = Vec::new(alloc);
-    let mut rest = *left;
+    let mut rest = *budget;
     while rest > 0 && found.len() <= most {
         let Some(next) = waiting.pop() else {
-            *left = rest;
+            *budget = rest;
             return Ok(Some(found));
         };
         let fields = own(graph, next);
@@ -97,7 +98,7 @@ fn names_in<J: Judge>(
         waiting.extend_from_slice(below.as_slice())?;
         add_sets(graph, spreads(graph, next), &mut waiting)?;
     }
-    *left = rest;
+    *budget = rest;
     Ok(None)
 }
 
@@ -107,16 +108,17 @@ fn names_below<J: Judge>(
     graph: &Graph<J>,
     field: Entry,
     names: &BitSet,
-    left: &mut usize,
+    budget: &mut usize,
 ) -> Result<Option<Vec<usize>>, AllocError>
-    ensures { let w = world J.judgement graph.now in
+    ensures names { let w = world J.judgement graph.now in
         IfOk result (λ o. IfSome o (λ v. ListsBelow w names.now field v.items)) }
+    ensures spent { budget.new ≤ budget.old }
 {
     let mut sets = Vec::new(alloc);
     if let Some(s) = field.below {
         sets.push(s)?;
     }
-    names_in(alloc, graph, sets, names, MOST, left)
+    names_in(alloc, graph, sets, names, MOST, budget)
 }
 
 // Which of some names stand below each of some fields.
@@ -125,13 +127,14 @@ fn names_below_each<J: Judge>(
     graph: &Graph<J>,
     fields: &[Entry],
     names: &BitSet,
-    left: &mut usize,
+    budget: &mut usize,
 ) -> Result<Touched, AllocError>
-    ensures { IfOk result (AreTouched (world J.judgement graph.now) names.now fields.now) }
+    ensures touched { IfOk result (AreTouched (world J.judgement graph.now) names.now fields.now) }
+    ensures spent { budget.new ≤ budget.old }
 {
     let mut lists = Vec::new(alloc);
     for k in 0..fields.len() {
-        lists.push(names_below(alloc, graph, fields[k], names, left)?)?;
+        lists.push(names_below(alloc, graph, fields[k], names, budget)?)?;
     }
     Ok(Touched { lists })
 }
@@ -145,7 +148,8 @@ pub fn none_touched(alloc: Global) -> Touched
     }
 }
 
-/// Which names stand below each of some fields, of those that have to be set apart so that all others merge there.
+/// Which names stand below each of some fields, of those that have to be set apart so that all others merge there. What
+/// it looks at and asks is taken off the budget.
 ///
 /// # Errors
 ///
@@ -155,18 +159,19 @@ pub fn touched_below<J: Judge>(
     graph: &Graph<J>,
     e: bool,
     fields: &[Entry],
-    left: &mut usize,
+    budget: &mut usize,
 ) -> Result<Touched, AllocError>
-    ensures { IfOk result (KnowsTouched (world J.judgement graph.now) e fields.now) }
+    ensures knows { IfOk result (KnowsTouched (world J.judgement graph.now) e fields.now) }
+    ensures spent { budget.new ≤ budget.old }
 {
     let mut apart = none_apart(alloc, fields.len());
     let mut unions = Vec::new(alloc);
     unions_below(alloc, graph, e, true, fields, &mut unions)?;
-    let is_known = are_quiet_but(alloc, graph, unions, true, &mut apart, left)?;
+    let is_known = are_quiet_but(alloc, graph, unions, true, &mut apart, budget)?;
     if !is_known {
         return Ok(none_touched(alloc));
     }
-    names_below_each(alloc, graph, fields, &apart.names, left)
+    names_below_each(alloc, graph, fields, &apart.names, budget)
 }
 
 /// The names that are listed at a place, if it is told.

@@ -1,6 +1,6 @@
 //! The fields of one response name of two sets: each of the one is compared with those of the other that it isn't known
 //! to merge with.
-ghost use Rattle.std.specs.Prelude.{◌≡◌, IfOk, Some, slice_get};
+ghost use Rattle.std.specs.Prelude.{◌≡◌, ◌≤◌, IfOk, Some, slice_get};
 ghost use Rattle.merge_sets.specs.Clear.{AreClearRows, AreOthers, IsSumWithin};
 ghost use Rattle.merge_certificates.specs.TwoSets.{KnowsRows, rights_of};
 ghost use Rattle.merge_sets.specs.World.{world};
@@ -26,8 +26,8 @@ pub struct Rows {
     pub numbered: Numbered,
 }
 
-/// The fields of one response name of two sets. Listed are rows that are known to merge with all others. It looks at no
-/// more fields and sets than there are pairs.
+/// The fields of one response name of two sets. Listed are rows that are known to merge with all others. What it looks at
+/// and asks is taken off the budget.
 ///
 /// # Errors
 ///
@@ -39,18 +39,19 @@ pub fn rows_of<J: Judge>(
     left: &[Entry],
     right: &[Entry],
     clear: BitSet,
+    budget: &mut usize,
 ) -> Result<Rows, AllocError>
     requires { AreClearRows (world J.judgement graph.now) e left.now right.now clear }
     ensures left { IfOk result (λ rows. rows.left.items ≡ left.now) }
     ensures right { IfOk result (λ rows. rights_of rows ≡ right.now) }
     ensures knows { IfOk result (KnowsRows (world J.judgement graph.now) e) }
+    ensures spent { budget.new ≤ budget.old }
 {
     let rows = Vec::from_slice(alloc, left)?;
     let mut fields = Vec::from_slice(alloc, left)?;
     fields.extend_from_slice(right)?;
-    let pairs = left.len().saturating_mul(right.len());
-    let below = known_below(alloc, graph, e, fields.as_slice(), pairs)?;
-    let numbered = numbered_kinds(alloc, graph, fields.as_slice(), &clear)?;
+    let below = known_below(alloc, graph, e, fields.as_slice(), budget)?;
+    let numbered = numbered_kinds(alloc, graph, fields.as_slice(), &clear, budget)?;
     Ok(Rows {
         left: rows,
         fields,
@@ -60,7 +61,8 @@ pub fn rows_of<J: Judge>(
     })
 }
 
-/// The fields of the other set that the row at a place isn't known to merge with.
+/// The fields of the other set that the row at a place isn't known to merge with. What is asked of their kinds is taken
+/// off the budget.
 ///
 /// # Errors
 ///
@@ -71,10 +73,12 @@ pub fn others_of<J: Judge>(
     rows: &Rows,
     e: bool,
     k: usize,
+    budget: &mut usize,
 ) -> Result<Vec<Entry>, AllocError>
     ensures others { let w = world J.judgement graph.now in IfOk result (λ v. (a : Entry) → KnowsRows w e rows.now
         → slice_get rows.now.left.items k ≡ Some a → AreOthers w e a (rights_of rows.now) v.items) }
     ensures once { IfOk result (λ v. IsSumWithin v.items (rights_of rows.now)) }
+    ensures spent { budget.new ≤ budget.old }
 {
     if rows.clear.contains(k) {
         return Ok(Vec::new(alloc));
@@ -89,6 +93,7 @@ pub fn others_of<J: Judge>(
         false,
         &rows.below,
         &rows.numbered,
+        budget,
     )?;
     Ok(others)
 }

@@ -2,7 +2,8 @@
 use Rattle.std.proofs.Common.{◌≡◌, ◌+◌, ◌*◌, ◌<◌, ◌≤◌, ◌∙◌, ◌++◌, ◌∷◌, [], ℕ, true, false, List, ap, arith, drop, get_or, length, max, min, subst, sym, Result, Ok, Err, OnOk}
 use Rattle.std.specs.Prelude.{sum_by}
 use Rattle.std.specs.Option.{option_map_or}
-use Rattle.std.proofs.lemmas.List.Sums.{get_or-le-sum_by, sum_by-drop_more, sum_by_push}
+use Rattle.std.proofs.lemmas.List.Sums.{get_or-le-sum_by, sum_by-cons, sum_by-drop_more, sum_by_push}
+use Rattle.std.proofs.lemmas.Nat.{mul-le}
 use Rattle.std.proofs.lemmas.Option.{slice_get-get_or, slice_get_past}
 use Rattle.merge_search.specs.declared.log.Log.{Log}
 use Rattle.merge_sets.specs.declared.node.Entry.{Entry}
@@ -10,15 +11,14 @@ use Rattle.merge_search.specs.declared.state.Search.{Search}
 use Rattle.merge_search.specs.declared.task.Task.{Task}
 use Rattle.merge_search.specs.Counts.{most_repeats}
 use Rattle.merge_search.specs.Log.{in_log}
-use Rattle.merge_search.specs.Spending.{Compares, ComparesUpto, CostsMore, Pays, Spends, credit, name_cost, open_cost, repeat_cost, row_cost, sets_cost, settle_cost, task_cost, tasks_cost, worth}
+use Rattle.merge_search.specs.Spending.{AsksUpto, Compares, ComparesUpto, CostsMore, Pays, Spends, Takes, credit, list_cost, name_cost, open_cost, pair_cost, repeat_cost, row_cost, rows_cost, sets_cost, settle_cost, task_cost, tasks_cost, worth}
 use Rattle.merge_search.specs.State.{CountsStay, Keeps}
 use Rattle.merge_search.specs.Weight.{below_weight, field_weight, fields_weight, fragment_weight, weight}
 use Rattle.merge_sets.specs.Names.{named}
 use Rattle.merge_sets.specs.World.{World, own_of}
-use Rattle.merge_search.proofs.OwnNames.{times}
 use Rattle.merge_sets.proofs.OneName.{in_list, named_is, no_entry}
 use Rattle.merge_search.proofs.Spent.{row_next}
-use Rattle.merge_search.proofs.Weights.{sum_by_same}
+use Rattle.merge_search.proofs.Weights.{length_weight, sum_by_same}
 
 pub pushed_cost : (w : World) (t : Task) (ts us : List Task) → us ≡ ts ++ t ∷ [] → tasks_cost w us ≡ tasks_cost w ts + task_cost w t
 pushed_cost w t ts us is = ap (tasks_cost w) is ∙ sum_by_push (task_cost w) ts t
@@ -77,14 +77,14 @@ module _ (w : World) where
     same_credit = credit_same w s t spent.pairs spent.searched spent.repeated
 
     -- all fields of a list were settled
-    pub list_settled : length fields ≤ k → (ts : List Task) → Pays w (field_weight w a * fields_weight w (drop n fields)) ts ts s t
+    pub list_settled : length fields ≤ k → (ts : List Task) → Pays w (list_cost w a (drop n fields)) ts ts s t
     list_settled past ts =
         let none : open_cost w fields k ≡ 0 = ap (λ o. option_map_or (λ b. 1 + 4 * below_weight w b) o 0) (slice_get_past fields k past) in
         record { paid = omega (arith, spent.judged, none, same_credit) }
 
     -- or those up to one, below which more waits
-    pub list_open : k < length fields → (ts vs us : List Task) → CostsMore w (field_weight w a * fields_weight w (drop (k + 1) fields)) ts vs
-        → CostsMore w (below_weight w a * below_weight w (get_or fields k no_entry)) vs us → Pays w (field_weight w a * fields_weight w (drop n fields)) ts us s t
+    pub list_open : k < length fields → (ts vs us : List Task) → CostsMore w (list_cost w a (drop (k + 1) fields)) ts vs
+        → CostsMore w (8 * (below_weight w a * below_weight w (get_or fields k no_entry))) vs us → Pays w (list_cost w a (drop n fields)) ts us s t
     list_open less ts vs us rest below =
         let one : open_cost w fields k ≡ 1 + 4 * below_weight w (get_or fields k no_entry) =
         ap (λ o. option_map_or (λ b. 1 + 4 * below_weight w b) o 0) (slice_get-get_or fields k no_entry less) in
@@ -95,14 +95,9 @@ module _ (w : World) where
   one_weight fields some = get_or-le-sum_by (field_weight w) fields 0 no_entry some
 
   -- a row and those after it, with the fields of another list
-  pub rows_next : (left right : List Entry) (k : ℕ) → k < length left → fields_weight w (drop k left) * fields_weight w right
-      ≡ field_weight w (get_or left k no_entry) * fields_weight w right + fields_weight w (drop (k + 1) left) * fields_weight w right
-  rows_next left right k less =
-      ap (λ (n : ℕ). n * fields_weight w right) (sum_by-drop_more (field_weight w) left k no_entry less)
-      ∙ spread (field_weight w (get_or left k no_entry)) (fields_weight w (drop (k + 1) left)) (fields_weight w right)
-    where
-      spread : (x y z : ℕ) → (x + y) * z ≡ x * z + y * z
-      spread x y z = omega arith
+  pub rows_next : (left right : List Entry) (k : ℕ) → k < length left
+      → rows_cost w (drop k left) right ≡ length right + list_cost w (get_or left k no_entry) right + rows_cost w (drop (k + 1) left) right
+  rows_next left right k less = sum_by-drop_more (λ (a : Entry). length right + list_cost w a right) left k no_entry less
 
   -- a response name of two sets, and those after it
   pub costs_next : (i j : ℕ) (ys firsts : List Entry) (k : ℕ) → ys ≡ firsts → k < length ys
@@ -111,18 +106,84 @@ module _ (w : World) where
       subst (λ zs. sets_cost w i j (drop k zs) ≡ name_cost w i j (get_or ys k no_entry).response + sets_cost w i j (drop (k + 1) zs)) is
       (sum_by-drop_more (λ (f : Entry). name_cost w i j f.response) ys k no_entry less)
 
-  -- the fields of a response name of one set, each with those of the other
-  pub all_rows : (i j n : ℕ) (fields : List Entry) → fields ≡ named n (own_of w i) → sum_by (row_cost w j) fields ≤ name_cost w i j n
-  all_rows i j n fields is =
-      let m = fields_weight w (named n (own_of w j)) in
-      let same : sum_by (row_cost w j) fields ≡ sum_by (λ (a : Entry). field_weight w a * m) fields =
-      sum_by_same (row_cost w j) (λ (a : Entry). field_weight w a * m) fields
-      (λ k d l. ap (λ (x : ℕ). field_weight w (get_or fields k d) * fields_weight w (named x (own_of w j)))
-      (named_is n (own_of w i) (get_or fields k d) (in_list fields (named n (own_of w i)) k d is l))) in
-      omega (arith, same, times (field_weight w) m fields, ap (λ xs. fields_weight w xs * m) is)
+  -- a field with some others, and seven for each two
+  pub list_all : (a : Entry) (fields : List Entry) → list_cost w a fields + 7 * length fields ≡ 8 * (field_weight w a * fields_weight w fields)
+  list_all a [] = omega arith
+  list_all a (b ∷ fields) = omega (arith, list_all a fields, sum_by-cons (pair_cost w a) b fields, ap (λ (n : ℕ). field_weight w a * n) (sum_by-cons (field_weight w) b fields))
 
-  pub one_row : (i j n : ℕ) (fields : List Entry) → fields ≡ named n (own_of w i) → 0 < length fields → row_cost w j (get_or fields 0 no_entry) ≤ name_cost w i j n
+  -- the fields of one list with those of another, and seven for each two
+  pub lists_all : (left right : List Entry) → sum_by (λ a. list_cost w a right) left + 7 * (length left * length right) ≡ 8 * (fields_weight w left * fields_weight w right)
+  lists_all [] right = omega arith
+  lists_all (a ∷ left) right =
+      omega (arith, lists_all left right, list_all a right, sum_by-cons (λ a. list_cost w a right) a left, ap (λ (n : ℕ). n * fields_weight w right) (sum_by-cons (field_weight w) a left))
+
+  -- the same, where it was asked which ones are known to merge
+  pub rows_all : (left right : List Entry) → rows_cost w left right + 6 * (length left * length right) ≡ 8 * (fields_weight w left * fields_weight w right)
+  rows_all [] right = omega arith
+  rows_all (a ∷ left) right =
+      omega (arith, rows_all left right, list_all a right, sum_by-cons (λ a. length right + list_cost w a right) a left, ap (λ (n : ℕ). n * fields_weight w right) (sum_by-cons (field_weight w) a left))
+
+  -- the fields of a response name of one set, each with those of the other
+  pub all_rows : (i j n : ℕ) (fields : List Entry) → fields ≡ named n (own_of w i)
+      → sum_by (row_cost w j) fields + 7 * (length fields * length (named n (own_of w j))) ≤ 8 * name_cost w i j n
+  all_rows i j n fields is =
+      let others = named n (own_of w j) in
+      let same : sum_by (row_cost w j) fields ≡ sum_by (λ (a : Entry). list_cost w a others) fields =
+      sum_by_same (row_cost w j) (λ (a : Entry). list_cost w a others) fields
+      (λ k d l. ap (λ (x : ℕ). list_cost w (get_or fields k d) (named x (own_of w j)))
+      (named_is n (own_of w i) (get_or fields k d) (in_list fields (named n (own_of w i)) k d is l))) in
+      omega (arith, same, lists_all fields others, ap (λ xs. fields_weight w xs * fields_weight w others) is)
+
+  pub one_row : (i j n : ℕ) (fields : List Entry) → fields ≡ named n (own_of w i) → 0 < length fields → row_cost w j (get_or fields 0 no_entry) ≤ 8 * name_cost w i j n
   one_row i j n fields is some = omega (arith, get_or-le-sum_by (row_cost w j) fields 0 no_entry some, all_rows i j n fields is)
+
+  module _ (i j n : ℕ) (fields others : List Entry) (left : fields ≡ named n (own_of w i)) (right : others ≡ named n (own_of w j)) where
+    pairs_few : length fields * length others ≤ name_cost w i j n
+    pairs_few =
+        mul-le (length fields) (length others) (fields_weight w (named n (own_of w i))) (fields_weight w (named n (own_of w j)))
+        (omega (arith, length_weight w fields, ap (fields_weight w) left)) (omega (arith, length_weight w others, ap (fields_weight w) right))
+
+    same_many : length fields * length (named n (own_of w j)) ≡ length fields * length others
+    same_many = ap (λ xs. length fields * length xs) (sym right)
+
+    -- all are known to merge
+    pub asked_pays : (ts : List Task) (s t : Search) → AsksUpto (2 * (length fields * length others)) s t → Pays w (8 * name_cost w i j n) ts ts s t
+    asked_pays ts s t a = record { paid = omega (arith, pairs_few, a.judged, credit_same w s t a.keeps.pairs a.keeps.searched a.keeps.repeated) }
+
+    -- some are, and the others wait
+    pub rows_wait : (ts us : List Task) (s t u : Search) → AsksUpto (2 * (length fields * length others)) s t → AsksUpto (2 * (length fields * length others)) t u
+        → CostsMore w (sum_by (row_cost w j) fields) ts us → Pays w (8 * name_cost w i j n) ts us s u
+    rows_wait ts us s t u a b more = record {
+      paid = omega (
+        arith,
+        all_rows i j n fields left,
+        same_many,
+        a.judged,
+        b.judged,
+        more.most,
+        credit_same w s t a.keeps.pairs a.keeps.searched a.keeps.repeated,
+        credit_same w t u b.keeps.pairs b.keeps.searched b.keeps.repeated,
+      );
+    }
+
+    -- or all wait as rows
+    pub wide_waits : (ts us : List Task) (s t u v : Search) → AsksUpto (2 * (length fields * length others)) s t → AsksUpto (2 * (length fields * length others)) t u
+        → AsksUpto (2 * (length fields * length others)) u v → CostsMore w (rows_cost w fields others) ts us → Pays w (8 * name_cost w i j n) ts us s v
+    wide_waits ts us s t u v a b d more = record {
+      paid = omega (
+        arith,
+        rows_all fields others,
+        ap (λ xs. fields_weight w xs * fields_weight w others) left,
+        ap (λ xs. fields_weight w (named n (own_of w i)) * fields_weight w xs) right,
+        a.judged,
+        b.judged,
+        d.judged,
+        more.most,
+        credit_same w s t a.keeps.pairs a.keeps.searched a.keeps.repeated,
+        credit_same w t u b.keeps.pairs b.keeps.searched b.keeps.repeated,
+        credit_same w u v d.keeps.pairs d.keeps.searched d.keeps.repeated,
+      );
+    }
 
   -- the last task was taken off and begun
   pub pays_taken : (t : Task) (fs ts rest us : List Task) (old now next : Search) → ts ≡ rest ++ t ∷ [] → Pays w 0 fs ts old now → Pays w (task_cost w t) rest us now next
@@ -130,11 +191,11 @@ module _ (w : World) where
   pays_taken t fs ts rest us old now next is before p = record { paid = omega (arith, before.paid, p.paid, pushed_cost w t rest ts is) }
 
   -- none is left
-  pub pays_end : (fs ts : List Task) (old now : Search) → ts ≡ [] → Pays w 0 fs ts old now → Spends w (tasks_cost w fs) old now
+  pub pays_end : (fs ts : List Task) (old now : Search) → ts ≡ [] → Pays w 0 fs ts old now → Takes w (tasks_cost w fs) old now
   pays_end fs ts old now none p = record { paid = omega (arith, p.paid, ap (tasks_cost w) none) }
 
   -- all that waits was done
-  pub spends_all : (n : ℕ) (ts us : List Task) (old now next : Search) → ts ≡ [] → Pays w n ts us old now → Spends w (tasks_cost w us) now next → Spends w n old next
+  pub spends_all : (n : ℕ) (ts us : List Task) (old now next : Search) → ts ≡ [] → Pays w n ts us old now → Takes w (tasks_cost w us) now next → Takes w n old next
   spends_all n ts us old now next none p q = record { paid = omega (arith, p.paid, q.paid, ap (tasks_cost w) none) }
 
   -- and nothing that counts changed before or after
@@ -143,18 +204,18 @@ module _ (w : World) where
     paid = omega (arith, p.paid, c.judged, d.judged, credit_same w s t k.pairs k.searched c.repeated, credit_same w u v l.pairs l.searched d.repeated);
   }
 
-  pub spends_after : (n : ℕ) (s t u : Search) → Spends w n s t → Keeps t u → CountsStay t u → Spends w n s u
-  spends_after n s t u p k c = record { paid = omega (arith, p.paid, c.judged, credit_same w t u k.pairs k.searched c.repeated) }
+  pub takes_after : (n : ℕ) (s t u : Search) → Takes w n s t → Keeps t u → CountsStay t u → Takes w n s u
+  takes_after n s t u p k c = record { paid = omega (arith, p.paid, c.judged, credit_same w t u k.pairs k.searched c.repeated) }
 
   pub spends_none : (n : ℕ) (s : Search) → Spends w n s s
   spends_none n s = record { paid = omega arith }
 
-  pub spends_counts : (n : ℕ) (s t : Search) → Compares n s t → Spends w n s t
-  spends_counts n s t c = record { paid = omega (arith, c.judged, credit_same w s t c.pairs c.searched c.repeated) }
+  pub settled_takes : (a b : Entry) (s t : Search) → Compares (settle_cost w a b true) s t → Takes w (pair_cost w a b) s t
+  settled_takes a b s t c = record { paid = omega (arith, c.judged, credit_same w s t c.pairs c.searched c.repeated) }
 
   -- two fields, with what stands below them
   pub fields_spend : (a b : Entry) (ts us : List Task) (s u t v : Search) → Compares (settle_cost w a b false) s u → Keeps u t → CountsStay u t → ts ≡ []
-      → CostsMore w (below_weight w a * below_weight w b) ts us → Spends w (tasks_cost w us) t v → Spends w (field_weight w a * field_weight w b) s v
+      → CostsMore w (8 * (below_weight w a * below_weight w b)) ts us → Takes w (tasks_cost w us) t v → Takes w (pair_cost w a b) s v
   fields_spend a b ts us s u t v looked k c none more p = record {
     paid = omega (
       arith,
@@ -169,7 +230,8 @@ module _ (w : World) where
   }
 
   -- what was begun with no task waiting, and ended
-  pub begun_spends : (n : ℕ) (ts us : List Task) (s t u v : Search) → Keeps s t → CountsStay s t → ts ≡ [] → Pays w n ts us t u → Spends w (tasks_cost w us) u v → Spends w n s v
-  begun_spends n ts us s t u v k c none p q = record {
-    paid = omega (arith, c.judged, p.paid, q.paid, ap (tasks_cost w) none, credit_same w s t k.pairs k.searched c.repeated);
+  pub begun_spends : (m n : ℕ) (ts us : List Task) (s t u v : Search) → Keeps s t → CountsStay s t → ts ≡ [] → m ≤ 8 * n → Pays w m ts us t u → Takes w (tasks_cost w us) u v
+      → Spends w n s v
+  begun_spends m n ts us s t u v k c none most p q = record {
+    paid = omega (arith, most, c.judged, p.paid, q.paid, ap (tasks_cost w) none, credit_same w s t k.pairs k.searched c.repeated);
   }

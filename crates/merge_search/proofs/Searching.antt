@@ -10,7 +10,7 @@ use Rattle.merge_sets.specs.Graph.{Falling, firsts_at}
 use Rattle.merge_sets.specs.Indexed.{firsts_of}
 use Rattle.merge_search.specs.Log.{covers_of}
 use Rattle.merge_sets.specs.Names.{HaveOwnNames}
-use Rattle.merge_search.specs.Spending.{CostsMore, Pays, Spends, sets_cost, task_cost, tasks_cost}
+use Rattle.merge_search.specs.Spending.{CostsMore, Pays, Spends, Takes, sets_cost, task_cost, tasks_cost}
 use Rattle.merge_search.specs.Opened.{OpensCounted}
 use Rattle.merge_search.specs.State.{CountsStay, Keeps, NotesPair}
 use Rattle.merge_search.specs.Weight.{fragment_weight, weight}
@@ -32,7 +32,7 @@ module _ (w : World) (falling : Falling w.sets w.fragments) where
 
   -- one that a search has opened
   pub one_pays : (e : Bool) (i g j n : ℕ) (ts vs us : List Task) (s t : Search) → j ≡ set_of w g → CostsMore w (task_cost w (Mark i n)) ts vs → Pays w (task_cost w (Own i j e 0)) vs us s t
-      → Pays w (weight w i * fragment_weight w g) ts us s t
+      → Pays w (8 * (weight w i * fragment_weight w g)) ts us s t
   one_pays e i g j n ts vs us s t is more p = record { paid = omega (arith, p.paid, more.most, own_cost i j g is) }
 
   -- two fragments pay for themselves
@@ -44,15 +44,14 @@ module _ (w : World) (falling : Falling w.sets w.fragments) where
 
   -- a search that opens fragments costs nothing more
   pub search_pays_all : (e : Bool) (i g : ℕ) (hs : List ℕ) (ts us : List Task) (s t u : Search) → OpensCounted w e i g hs s t
-      → Pays w (weight w i * sum_by (fragment_weight w) hs) ts us t u → Pays w 0 ts us s u
+      → Pays w (8 * (weight w i * sum_by (fragment_weight w) hs)) ts us t u → Pays w 0 ts us s u
   search_pays_all e i g hs ts us s t u o p =
       let c = o.counts in
       record { paid = omega (arith, p.paid, o.opens.asks.pays, o.opens.asks.judged, c.judged, credit_same w o.mid t c.pairs c.searched c.repeated) }
 
   -- the own fields of two sets
   pub own_spends : (i j : ℕ) (e : Bool) (ts us : List Task) (s t u v : Search) → Keeps s t → CountsStay s t → ts ≡ [] → Pays w (task_cost w (Own i j e 0)) ts us t u
-      → Spends w (tasks_cost w us) u v → Spends w (weight w i * weight w j) s v
+      → Takes w (tasks_cost w us) u v → Spends w (weight w i * weight w j) s v
   own_spends i j e ts us s t u v k c none p q =
       let within = sets_within w falling i j (firsts_at w.sets i) (own_names_of (slice_get w.sets i)) in
-      let all = begun_spends w (task_cost w (Own i j e 0)) ts us s t u v k c none p q in
-      record { paid = omega (arith, all.paid, within) }
+      begun_spends w (task_cost w (Own i j e 0)) (weight w i * weight w j) ts us s t u v k c none (omega (arith, within)) p q

@@ -9,7 +9,7 @@ use Rattle.merge_sets.specs.declared.node.Entry.{Entry}
 use Rattle.merge_search.specs.declared.state.Search.{Search}
 use Rattle.merge_sets.specs.Graph.{Falling}
 use Rattle.merge_search.specs.State.{CountsFields}
-use Rattle.merge_search.specs.Spending.{Compares, ComparesUpto, LooksFlatly, open_cost, settle_cost}
+use Rattle.merge_search.specs.Spending.{Compares, ComparesUpto, LooksFlatly, list_cost, open_cost, pair_cost, settle_cost}
 use Rattle.merge_search.specs.Weight.{below_weight, field_weight, fields_weight, weight}
 use Rattle.merge_sets.specs.World.{World, own_of}
 use Rattle.merge_search.proofs.Weights.{length_weight, own_weight}
@@ -48,13 +48,9 @@ module _ (w : World) (falling : Falling w.sets w.fragments) where
   }
 
 module _ (w : World) (a : Entry) (fields : List Entry) where
-  -- a field times those from a place on: the one there, and the rest
-  pub row_next : (k : ℕ) → k < length fields → field_weight w a * fields_weight w (drop k fields)
-      ≡ field_weight w a * field_weight w (get_or fields k no_entry) + field_weight w a * fields_weight w (drop (k + 1) fields)
-  row_next k less = ap (λ (n : ℕ). field_weight w a * n) (sum_by-drop_more (field_weight w) fields k no_entry less) ∙ spread (field_weight w a) _ _
-    where
-      spread : (x y z : ℕ) → x * (y + z) ≡ x * y + x * z
-      spread x y z = omega arith
+  -- a field and those from a place on: the one there, and the rest
+  pub row_next : (k : ℕ) → k < length fields → list_cost w a (drop k fields) ≡ pair_cost w a (get_or fields k no_entry) + list_cost w a (drop (k + 1) fields)
+  row_next k less = sum_by-drop_more (pair_cost w a) fields k no_entry less
 
   -- nothing was compared yet
   pub upto_none : (n : ℕ) (s : Search) → ComparesUpto w a fields n n 0 s s

@@ -229,7 +229,7 @@ module _ (w : World) (e : Bool) where
   pub searches_full : (D : Search → Type 0) (P : Root → Type 0) (s : Search) → (HasRoom w s.found.items → ⊥) → Searches w e D P s s
   searches_full D P s full = record { done = did_full w D s full; real = adds_none w e P s.found.items }
 
-keeps_self : (s : Search) → Keeps s s
+pub keeps_self : (s : Search) → Keeps s s
 keeps_self s = record { pairs = refl; searched = refl; found = refl; compared = refl; opened = refl; looked = refl; lists = refl; repeated = refl }
 
 -- a field and one of a list
@@ -252,6 +252,12 @@ module _ (w : World) (e : Bool) where
   -- nothing that is spoken of changed before
   pub list_kept : (a : Entry) (list : List Entry) (k : ℕ) (s t u : Search) → Keeps s t → MeetsList w e a list k t u → MeetsList w e a list k s u
   list_kept a list k s t u keeps d = compares_kept w e _ _ _ s t u u keeps d (keeps_self u)
+
+  pub both_kept : (left right : List Entry) (k : ℕ) (s t u : Search) → Keeps s t → MeetsBoth w e left right k t u → MeetsBoth w e left right k s u
+  both_kept left right k s t u keeps d = compares_kept w e _ _ _ s t u u keeps d (keeps_self u)
+
+  pub named_kept : (i j n : ℕ) (s t u : Search) → Keeps s t → MeetsNamed w e i j n t u → MeetsNamed w e i j n s u
+  named_kept i j n s t u keeps d = compares_kept w e _ _ _ s t u u keeps d (keeps_self u)
 
   -- all that a field is compared with, where the others are known to merge with it
   pub others_whole : (a : Entry) (rest others : List Entry) (s t : Search) → AreOthers w e a rest others → MeetsList w e a others 0 s t

@@ -7,6 +7,7 @@ use Rattle.merge_search.specs.declared.task.Task.{Task}
 use Rattle.merge_search.specs.declared.task.Task.TheVariants.{With, Listed, Rows, Own, Close, Opened, Mark, Spreads}
 use Rattle.merge_search.specs.Counts.{greatest, most_repeats}
 use Rattle.merge_search.specs.Log.{covers_of}
+use Rattle.merge_search.specs.State.{Keeps}
 use Rattle.merge_sets.specs.Names.{named}
 use Rattle.merge_sets.specs.Graph.{firsts_at}
 use Rattle.merge_certificates.specs.TwoSets.{rights_of}
@@ -39,18 +40,31 @@ name_cost w i j n = fields_weight w (named n (own_of w i)) * fields_weight w (na
 abbrev pub sets_cost : World → ℕ → ℕ → List Entry → ℕ
 sets_cost w i j firsts = sum_by (λ f. name_cost w i j f.response) firsts
 
+-- Two fields that are compared one by one, and what stands below them: eight times the product of their weights, but for
+-- seven, which pay for what is asked where many are passed at once.
+abbrev pub pair_cost : World → Entry → Entry → ℕ
+pair_cost w a b = 1 + 8 * (below_weight w a + below_weight w b + below_weight w a * below_weight w b)
+
+-- A field, and each of some others.
+abbrev pub list_cost : World → Entry → List Entry → ℕ
+list_cost w a fields = sum_by (pair_cost w a) fields
+
 -- A field, and the fields of a set that have its response name.
 abbrev pub row_cost : World → ℕ → Entry → ℕ
-row_cost w j a = field_weight w a * fields_weight w (named a.response (own_of w j))
+row_cost w j a = list_cost w a (named a.response (own_of w j))
+
+-- Some fields, each with some others, once it was asked which of these it is known to merge with.
+abbrev pub rows_cost : World → List Entry → List Entry → ℕ
+rows_cost w left right = sum_by (λ a. length right + list_cost w a right) left
 
 -- What a task may cost, but for what pays.
 abbrev pub task_cost : World → Task → ℕ
-task_cost w (With a j e n) = field_weight w a * fields_weight w (drop n (named a.response (own_of w j)))
-task_cost w (Listed a list e n) = field_weight w a * fields_weight w (drop n list.items)
-task_cost w (Rows rows e k) = fields_weight w (drop k rows.left.items) * fields_weight w (rights_of rows)
-task_cost w (Own i j e k) = sets_cost w i j (drop k (firsts_at w.sets i))
+task_cost w (With a j e n) = list_cost w a (drop n (named a.response (own_of w j)))
+task_cost w (Listed a list e n) = list_cost w a (drop n list.items)
+task_cost w (Rows rows e k) = rows_cost w (drop k rows.left.items) (rights_of rows)
+task_cost w (Own i j e k) = 8 * sets_cost w i j (drop k (firsts_at w.sets i))
 task_cost w (Close a b start) = 0
-task_cost w (Opened i g e opening k) = weight w i * sum_by (fragment_weight w) (drop k opening.order.items)
+task_cost w (Opened i g e opening k) = 8 * (weight w i * sum_by (fragment_weight w) (drop k opening.order.items))
 task_cost w (Mark i start) = 0
 task_cost w (Spreads s p e k) = 0
 
@@ -78,13 +92,22 @@ pub record Compares (n : ℕ) (old new : Search) : Type 0 where
 abbrev pub CountsAtLeast : ℕ → Search → Search → Type 0
 CountsAtLeast n old new = min (old.judged + n) greatest ≤ new.judged
 
--- Four times so many fields were compared at most, but for what pays.
-pub record Spends (w : World) (n : ℕ) (old new : Search) : Type 0 where
-  pub paid : new.judged + 4 * credit w old ≤ old.judged + 4 * (credit w new + n)
+-- So much was asked at most to pass fields, and nothing else changed.
+pub record AsksUpto (n : ℕ) (old new : Search) : Type 0 where
+  pub judged : new.judged ≤ old.judged + n
+  pub keeps : Keeps old new
 
--- The same, where tasks wait for the rest.
+-- So many fields were compared at most, but for what pays.
+pub record Takes (w : World) (n : ℕ) (old new : Search) : Type 0 where
+  pub paid : new.judged + 8 * credit w old ≤ old.judged + (8 * credit w new + n)
+
+-- Eight times so many.
+pub record Spends (w : World) (n : ℕ) (old new : Search) : Type 0 where
+  pub paid : new.judged + 8 * credit w old ≤ old.judged + 8 * (credit w new + n)
+
+-- So many fields were compared at most, but for what pays, and for the tasks that wait.
 pub record Pays (w : World) (n : ℕ) (waited waits : List Task) (old new : Search) : Type 0 where
-  pub paid : new.judged + 4 * (credit w old + tasks_cost w waits) ≤ old.judged + 4 * (credit w new + tasks_cost w waited + n)
+  pub paid : new.judged + (8 * credit w old + tasks_cost w waits) ≤ old.judged + (8 * credit w new + tasks_cost w waited + n)
 
 -- What two fields cost that are settled at once, or aren't.
 abbrev pub settle_cost : World → Entry → Entry → Bool → ℕ
@@ -103,8 +126,7 @@ open_cost w fields k = option_map_or (λ b. 1 + 4 * below_weight w b) (slice_get
 
 -- A field was compared with those of a list from one place up to another, and so much more was done.
 pub record ComparesUpto (w : World) (a : Entry) (fields : List Entry) (from to more : ℕ) (old new : Search) : Type 0 where
-  pub judged : new.judged + 4 * (field_weight w a * fields_weight w (drop to fields))
-      ≤ old.judged + 4 * (field_weight w a * fields_weight w (drop from fields)) + more
+  pub judged : new.judged + list_cost w a (drop to fields) ≤ old.judged + list_cost w a (drop from fields) + more
   pub pairs : new.pairs ≡ old.pairs
   pub searched : new.searched ≡ old.searched
   pub repeated : new.repeated ≡ old.repeated

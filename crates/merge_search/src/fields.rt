@@ -1,5 +1,5 @@
 //! The steps of a search that compare fields.
-ghost use Rattle.std.specs.Prelude.{◌≡◌, ◌*◌, ◌≤◌, OnOk, Bool, false, reverse, sum_by};
+ghost use Rattle.std.specs.Prelude.{◌≡◌, ◌*◌, ◌≤◌, OnOk, Bool, false, length, reverse, sum_by};
 ghost use Rattle.merge_search.specs.declared.state.Search.{Search};
 ghost use Rattle.std.specs.Bool.{OnTrue};
 ghost use Rattle.merge_sets.specs.Clear.{AreClearRows, IsClear};
@@ -7,16 +7,18 @@ ghost use Rattle.merge_sets.specs.Names.{named};
 ghost use Rattle.merge_sets.specs.World.{World, world, own_of, conflict_of};
 ghost use Rattle.merge_search.specs.Tasks.{Turns, Waits, Meets, MeetsFields, MeetsNamed, MeetsNested, MeetsBelow};
 ghost use Rattle.merge_search.specs.Tasks.{AreClearWith, Closes, MeetsBoth, MeetsRows, MeetsWith};
-ghost use Rattle.merge_search.specs.Spending.{Compares, CostsMore, Pays, name_cost, row_cost, task_cost};
-ghost use Rattle.merge_search.specs.Weight.{below_weight, fields_weight, weight};
+ghost use Rattle.merge_search.specs.Spending.{AsksUpto, Compares, CostsMore, Pays, name_cost, row_cost, rows_cost};
+ghost use Rattle.merge_search.specs.Spending.{task_cost};
+ghost use Rattle.merge_search.specs.Weight.{below_weight, weight};
 ghost use Rattle.merge_search.specs.declared.task.Task.{Task};
 
+use crate::passing::{ask_clear, ask_others, ask_pairs, ask_rows};
 use crate::settle::settle_from;
 use crate::state::{Search, report};
 use crate::task::{Partner, Task, wait};
 use bit_matrix::set::BitSet;
-use merge_certificates::clear::{MANY, are_clear, clear_rows};
-use merge_certificates::two_sets::{Rows, others_of, rows_of};
+use merge_certificates::clear::MANY;
+use merge_certificates::two_sets::Rows;
 use merge_sets::finding::Finding;
 use merge_sets::graph::Graph;
 use merge_sets::judge::Judge;
@@ -41,7 +43,7 @@ pub(crate) fn begin_below<J: Judge>(
     ensures turns { let w = world J.judgement graph.now in
         OnOk result (Turns w (MeetsFields w e a b) tasks.old.items tasks.new.items search.now search.now) }
     ensures costs { let w = world J.judgement graph.now in
-        OnOk result (CostsMore w (below_weight w a * below_weight w b) tasks.old.items tasks.new.items) }
+        OnOk result (CostsMore w (8 * (below_weight w a * below_weight w b)) tasks.old.items tasks.new.items) }
 {
     match (a.below, b.below) {
         (Some(i), Some(j)) => begin_nested(graph, a, b, i, j, e, tasks, search),
@@ -63,7 +65,7 @@ fn begin_nested<J: Judge>(
     ensures turns { let w = world J.judgement graph.now in
         OnOk result (Turns w (MeetsNested w e a b i j) tasks.old.items tasks.new.items search.now search.now) }
     ensures costs { let w = world J.judgement graph.now in
-        OnOk result (CostsMore w (weight w i * weight w j) tasks.old.items tasks.new.items) }
+        OnOk result (CostsMore w (8 * (weight w i * weight w j)) tasks.old.items tasks.new.items) }
 {
     tasks.push(Task::Close(a, b, search.found.len()))?;
     wait_below(graph, i, j, are_exclusive(graph, e, a, b), tasks)?;
@@ -81,7 +83,7 @@ fn wait_below<J: Judge>(
     ensures waits { let w = world J.judgement graph.now in
         OnOk result (Waits w (reverse tasks.new.items) (MeetsBelow w e i j) (reverse tasks.old.items)) }
     ensures costs { let w = world J.judgement graph.now in
-        OnOk result (CostsMore w (weight w i * weight w j) tasks.old.items tasks.new.items) }
+        OnOk result (CostsMore w (8 * (weight w i * weight w j)) tasks.old.items tasks.new.items) }
 {
     let left = spreads(graph, i).len();
     let right = spreads(graph, j).len();
@@ -176,7 +178,7 @@ pub(crate) fn next_row<J: Judge>(
         return Ok(());
     }
     let a = left[k];
-    let others = others_of(search.alloc, graph, &rows, e, k)?;
+    let others = ask_others(graph, &rows, e, k, search)?;
     tasks.push(Task::Rows(rows, e, k + 1))?;
     next_listed(graph, a, others, e, 0, tasks, search)?;
     Ok(())
@@ -230,15 +232,16 @@ fn wait_wide<J: Judge>(
     clear: BitSet,
     e: bool,
     tasks: &mut Vec<Task>,
-    search: &Search,
+    search: &mut Search,
 ) -> Result<(), AllocError>
     requires { AreClearRows (world J.judgement graph.now) e left.now right.now clear }
     ensures waits { let w = world J.judgement graph.now in OnOk result
         (Waits w (reverse tasks.new.items) (MeetsBoth w e left.now right.now 0) (reverse tasks.old.items)) }
     ensures costs { let w = world J.judgement graph.now in OnOk result
-        (CostsMore w (fields_weight w left.now * fields_weight w right.now) tasks.old.items tasks.new.items) }
+        (CostsMore w (rows_cost w left.now right.now) tasks.old.items tasks.new.items) }
+    ensures counts { OnOk result (AsksUpto (2 * (length left.now * length right.now)) search.old search.new) }
 {
-    let rows = rows_of(search.alloc, graph, e, left, right, clear)?;
+    let rows = ask_pairs(graph, left, right, clear, e, search)?;
     tasks.push(Task::Rows(rows, e, 0))?;
     Ok(())
 }
@@ -256,7 +259,7 @@ fn next_named<J: Judge>(
 ) -> Result<(), AllocError>
     ensures turns { let w = world J.judgement graph.now in
         OnOk result (Turns w (MeetsNamed w e i j name) tasks.old.items tasks.new.items search.old search.new) }
-    ensures pays { let w = world J.judgement graph.now in let cost = name_cost w i j name in
+    ensures pays { let w = world J.judgement graph.now in let cost = 8 * name_cost w i j name in
         OnOk result (Pays w cost tasks.old.items tasks.new.items search.old search.new) }
 {
     let fields = group(graph, i, name);
@@ -265,10 +268,10 @@ fn next_named<J: Judge>(
         return Ok(());
     }
     let others = group(graph, j, name);
-    if are_clear(search.alloc, graph, e, fields, others)? {
+    if ask_clear(graph, fields, others, e, search)? {
         return Ok(());
     }
-    let clear = clear_rows(search.alloc, graph, e, fields, others)?;
+    let clear = ask_rows(graph, fields, others, e, search)?;
     if fields.len().saturating_mul(others.len()) < MANY {
         wait_rows(fields, &clear, j, e, tasks)?;
         return Ok(());

@@ -28,7 +28,7 @@ fn begin_one<J: Judge>(
 ) -> Result<(), AllocError>
     ensures turns { let w = world J.judgement graph.now in
         OnOk result (Turns w (MeetsOne w e i g) tasks.old.items tasks.new.items search.old search.new) }
-    ensures pays { let w = world J.judgement graph.now in let cost = weight w i * fragment_weight w g in
+    ensures pays { let w = world J.judgement graph.now in let cost = 8 * (weight w i * fragment_weight w g) in
         OnOk result (Pays w cost tasks.old.items tasks.new.items search.old search.new) }
 {
     tasks.push(Task::Mark(i, search.found.len()))?;

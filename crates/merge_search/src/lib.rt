@@ -5,6 +5,7 @@ mod fields;
 mod fragments;
 pub mod log;
 pub mod opening;
+pub mod passing;
 pub mod repeats;
 pub mod search;
 mod settle;

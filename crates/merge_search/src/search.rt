@@ -6,8 +6,8 @@ ghost use Rattle.merge_sets.specs.World.{world};
 ghost use Rattle.merge_search.specs.State.{Keeps};
 ghost use Rattle.merge_search.specs.Work.{Did, Done, Pair, OwnPairs};
 ghost use Rattle.merge_search.specs.Reports.{Finds, FindsAll, AtFields, AtOwn, AtFragments};
-ghost use Rattle.merge_search.specs.Spending.{Pays, Spends, task_cost, tasks_cost};
-ghost use Rattle.merge_search.specs.Weight.{field_weight, weight};
+ghost use Rattle.merge_search.specs.Spending.{Pays, Spends, Takes, pair_cost, task_cost, tasks_cost};
+ghost use Rattle.merge_search.specs.Weight.{weight};
 ghost use Rattle.merge_search.specs.Tasks.{Meets, MeetsAll, Turns};
 ghost use Rattle.merge_search.specs.declared.state.Search.{Search};
 
@@ -37,8 +37,8 @@ pub fn compare_fields<J: Judge>(
         OnOk result (Did w (λ M. Done w M e a b) search.old search.new) }
     ensures real { let w = world J.judgement graph.now in
         OnOk result (FindsAll w e (AtFields a b) (AtFields a b) search.old search.new) }
-    ensures spends { let w = world J.judgement graph.now in
-        OnOk result (Spends w (field_weight w a * field_weight w b) search.old search.new) }
+    ensures takes { let w = world J.judgement graph.now in
+        OnOk result (Takes w (pair_cost w a b) search.old search.new) }
 {
     if settle(graph, a, b, e, search)? {
         return Ok(());
@@ -114,7 +114,7 @@ fn finish<J: Judge>(
     ensures meets { let w = world J.judgement graph.now in
         OnOk result ((mid : Search) × MeetsAll w (reverse tasks.items) search.old mid × Keeps mid search.new) }
     ensures spends { let w = world J.judgement graph.now in
-        OnOk result (Spends w (tasks_cost w tasks.items) search.old search.new) }
+        OnOk result (Takes w (tasks_cost w tasks.items) search.old search.new) }
 {
     do_all(graph, &mut tasks, search)?;
     put_tasks(search, tasks);
@@ -130,7 +130,7 @@ fn do_all<J: Judge>(
     ensures meets { let w = world J.judgement graph.now in
         OnOk result (MeetsAll w (reverse tasks.old.items) search.old search.new) }
     ensures spends { let w = world J.judgement graph.now in
-        OnOk result (Spends w (tasks_cost w tasks.old.items) search.old search.new) }
+        OnOk result (Takes w (tasks_cost w tasks.old.items) search.old search.new) }
 {
     for _ in 0..u64::MAX {
         let Some(task) = tasks.pop() else {

@@ -1,3 +1,4 @@
+pub mod Budget
 pub mod Judgement
 pub mod Names
 pub mod Kinds

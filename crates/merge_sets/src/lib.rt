@@ -2,6 +2,7 @@
 //! names under which all fields agree.
 #![tactic(auto)]
 
+pub mod budget;
 pub mod finding;
 pub mod graph;
 pub mod groups;

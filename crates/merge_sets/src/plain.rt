@@ -1,5 +1,5 @@
 //! Sets in which nothing can conflict, so that a search passes over them.
-ghost use Rattle.std.specs.Prelude.{◌≡◌, IfOk};
+ghost use Rattle.std.specs.Prelude.{◌≡◌, ◌≤◌, IfOk};
 ghost use Rattle.std.specs.Bool.{OnTrue};
 ghost use Rattle.std.specs.List.{All};
 ghost use Rattle.bit_matrix.specs.Set.{has};
@@ -98,10 +98,15 @@ fn is_plain_set<J: Judge>(graph: &Graph<J>, s: usize, mixed: &BitSet, sets: &Bit
 }
 
 // The sets that are plain. Each refers to smaller ones, so one pass in the order of their numbers finds them.
-fn plain_sets<J: Judge>(alloc: Global, graph: &Graph<J>) -> Result<BitSet, AllocError>
-    ensures { IfOk result (λ sets. ArePlain (world J.judgement graph.now) sets) }
+fn plain_sets<J: Judge>(
+    alloc: Global,
+    graph: &Graph<J>,
+    budget: &mut usize,
+) -> Result<BitSet, AllocError>
+    ensures plain { IfOk result (λ sets. ArePlain (world J.judgement graph.now) sets) }
+    ensures spent { budget.new ≤ budget.old }
 {
-    let mixed = mixed_names(alloc, graph)?;
+    let mixed = mixed_names(alloc, graph, budget)?;
     let mut sets = BitSet::new(alloc);
     for s in 0..graph.sets.len() {
         if is_plain_set(graph, s, &mixed, &sets) {
@@ -146,16 +151,22 @@ fn may_be_met_again(sets: &[SetNode], s: usize) -> bool {
     }
 }
 
-/// Lists sets that a search may pass over: they are plain. Where few pairs would be compared, it lists none.
+/// Lists sets that a search may pass over: they are plain. Where few pairs would be compared, it lists none. What is asked
+/// of fields is taken off the budget, and where that hasn't enough, fewer sets are listed.
 ///
 /// # Errors
 ///
 /// Out of memory.
-pub fn passed_over<J: Judge>(alloc: Global, graph: &Graph<J>) -> Result<BitSet, AllocError>
-    ensures { IfOk result (λ sets. ArePlain (world J.judgement graph.now) sets) }
+pub fn passed_over<J: Judge>(
+    alloc: Global,
+    graph: &Graph<J>,
+    budget: &mut usize,
+) -> Result<BitSet, AllocError>
+    ensures plain { IfOk result (λ sets. ArePlain (world J.judgement graph.now) sets) }
+    ensures spent { budget.new ≤ budget.old }
 {
     if is_worthwhile(graph) {
-        plain_sets(alloc, graph)
+        plain_sets(alloc, graph, budget)
     } else {
         Ok(BitSet::new(alloc))
     }

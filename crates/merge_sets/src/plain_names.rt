@@ -1,5 +1,5 @@
 //! Response names under which all fields agree, wherever they stand.
-ghost use Rattle.std.specs.Prelude.{◌≡◌, ◌∷◌, [], ◌<◌, ℕ, Bool, None, OnOk, IfOk, length, true};
+ghost use Rattle.std.specs.Prelude.{◌≡◌, ◌∷◌, [], ◌<◌, ◌≤◌, ℕ, Bool, None, OnOk, IfOk, length, true};
 ghost use Rattle.std.specs.Bool.{OnTrue};
 ghost use Rattle.std.specs.List.{All, Contains};
 ghost use Rattle.bit_matrix.specs.Set.{has};
@@ -14,7 +14,7 @@ use crate::groups::{fields_named, first_fields, make_set, sorted_fields};
 use crate::judge::Judge;
 use crate::kinds::agree_by_kinds;
 use crate::node::{Entry, SetNode};
-use crate::view::own;
+use crate::view::{is_like, own};
 use bit_matrix::set::BitSet;
 use std::alloc::{AllocError, Global};
 
@@ -64,37 +64,54 @@ fn first_like(seen: &mut Seen, field: Entry) -> Result<usize, AllocError>
 }
 
 // Looks at a field. Of a name that is marked no more need be known.
-fn note_field<J: Judge>(graph: &Graph<J>, field: Entry, seen: &mut Seen) -> Result<(), AllocError>
-    ensures { OnOk result (Notes (J.are_alike graph.now.judge) (field ∷ []) seen.old seen.new) }
+fn note_field<J: Judge>(
+    graph: &Graph<J>,
+    field: Entry,
+    seen: &mut Seen,
+    budget: &mut usize,
+) -> Result<(), AllocError>
+    ensures notes { OnOk result (Notes (J.are_alike graph.now.judge) (field ∷ []) seen.old seen.new) }
+    ensures spent { budget.new ≤ budget.old }
 {
     if seen.mixed.contains(field.response) {
         return Ok(());
     }
     let one = first_like(seen, field)?;
-    if !graph.judge.is_plainly_like(one, field.field) {
+    if !is_like(graph, one, field.field, budget) {
         seen.mixed.insert(field.response)?;
     }
     Ok(())
 }
 
 // Looks at the own fields of a set.
-fn note_own<J: Judge>(graph: &Graph<J>, s: usize, seen: &mut Seen) -> Result<(), AllocError>
-    ensures { let w = world J.judgement graph.now in
+fn note_own<J: Judge>(
+    graph: &Graph<J>,
+    s: usize,
+    seen: &mut Seen,
+    budget: &mut usize,
+) -> Result<(), AllocError>
+    ensures notes { let w = world J.judgement graph.now in
         OnOk result (Notes (J.are_alike graph.now.judge) (own_of w s) seen.old seen.new) }
+    ensures spent { budget.new ≤ budget.old }
 {
     for field in own(graph, s) {
-        note_field(graph, *field, seen)?;
+        note_field(graph, *field, seen, budget)?;
     }
     Ok(())
 }
 
 // The response names that have a field which isn't plainly like the first. Each field is compared with that one alone.
-fn unlike_names<J: Judge>(alloc: Global, graph: &Graph<J>) -> Result<BitSet, AllocError>
-    ensures { IfOk result (ArePlainBut (world J.judgement graph.now)) }
+fn unlike_names<J: Judge>(
+    alloc: Global,
+    graph: &Graph<J>,
+    budget: &mut usize,
+) -> Result<BitSet, AllocError>
+    ensures names { IfOk result (ArePlainBut (world J.judgement graph.now)) }
+    ensures spent { budget.new ≤ budget.old }
 {
     let mut seen = none_seen(alloc);
     for s in 0..graph.sets.len() {
-        note_own(graph, s, &mut seen)?;
+        note_own(graph, s, &mut seen, budget)?;
     }
     Ok(seen.mixed)
 }
@@ -148,14 +165,16 @@ fn agree_always<J: Judge>(
     alloc: Global,
     graph: &Graph<J>,
     fields: &[Entry],
+    budget: &mut usize,
 ) -> Result<bool, AllocError>
-    ensures { IfOk result (λ b. OnTrue b
+    ensures agree { IfOk result (λ b. OnTrue b
         ((e : Bool) → NoneConflict (J.judgement graph.now.judge) e fields.now fields.now)) }
+    ensures spent { budget.new ≤ budget.old }
 {
-    if !agree_by_kinds(alloc, graph, false, fields, fields)? {
+    if !agree_by_kinds(alloc, graph, false, fields, fields, budget)? {
         return Ok(false);
     }
-    agree_by_kinds(alloc, graph, true, fields, fields)
+    agree_by_kinds(alloc, graph, true, fields, fields, budget)
 }
 
 // Marks a response name of a set, unless it is known by their kinds that no two of its fields fail with each other.
@@ -165,12 +184,14 @@ fn mark_name<J: Judge>(
     set: &SetNode,
     name: usize,
     mixed: &mut BitSet,
+    budget: &mut usize,
 ) -> Result<(), AllocError>
     ensures told { OnOk result (IsToldOf (J.judgement graph.now.judge) set.now.own.items mixed.new name) }
     ensures kept { OnOk result ((n : ℕ) → has mixed.old n ≡ true → has mixed.new n ≡ true) }
+    ensures spent { budget.new ≤ budget.old }
 {
     let group = fields_named(sorted_fields(set), name);
-    if agree_always(alloc, graph, group)? {
+    if agree_always(alloc, graph, group, budget)? {
         return Ok(());
     }
     mixed.insert(name)?;
@@ -182,30 +203,38 @@ fn marked_names<J: Judge>(
     alloc: Global,
     graph: &Graph<J>,
     set: &SetNode,
+    budget: &mut usize,
 ) -> Result<BitSet, AllocError>
-    ensures { IfOk result (λ mixed. All
+    ensures told { IfOk result (λ mixed. All
         (λ a. IsToldOf (J.judgement graph.now.judge) set.now.own.items mixed a.response) set.now.own.items) }
+    ensures spent { budget.new ≤ budget.old }
 {
     let mut mixed = BitSet::new(alloc);
     for first in first_fields(set) {
-        mark_name(alloc, graph, set, first.response, &mut mixed)?;
+        mark_name(alloc, graph, set, first.response, &mut mixed, budget)?;
     }
     Ok(mixed)
 }
 
 /// Lists the response names of which two fields may conflict. All others are plain.
 ///
-/// Each field is compared with the first one of its name, and where they are not alike, with those of other kinds.
+/// Each field is compared with the first one of its name, and where they are not alike, with those of other kinds. What is
+/// asked is taken off the budget, and where that hasn't enough, more names are listed.
 ///
 /// # Errors
 ///
 /// Out of memory.
-pub fn mixed_names<J: Judge>(alloc: Global, graph: &Graph<J>) -> Result<BitSet, AllocError>
-    ensures { IfOk result (ArePlainBut (world J.judgement graph.now)) }
+pub fn mixed_names<J: Judge>(
+    alloc: Global,
+    graph: &Graph<J>,
+    budget: &mut usize,
+) -> Result<BitSet, AllocError>
+    ensures names { IfOk result (ArePlainBut (world J.judgement graph.now)) }
+    ensures spent { budget.new ≤ budget.old }
 {
-    let unlike = unlike_names(alloc, graph)?;
+    let unlike = unlike_names(alloc, graph, budget)?;
     let fields = marked_fields(alloc, graph, &unlike)?;
     let set = make_set(alloc, fields, Vec::new(alloc))?;
-    let mixed = marked_names(alloc, graph, &set)?;
+    let mixed = marked_names(alloc, graph, &set, budget)?;
     Ok(mixed)
 }

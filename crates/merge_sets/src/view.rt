@@ -1,13 +1,15 @@
 //! What a search reads of a graph.
-ghost use Rattle.std.specs.Prelude.{◌≡◌, Bool, IfOk};
+ghost use Rattle.std.specs.Prelude.{◌≡◌, ◌≤◌, Bool, IfOk, false, length};
 ghost use Rattle.merge_sets.specs.Names.{named, AreListed, HaveOwnNames};
 ghost use Rattle.std.specs.Bool.{OnTrue};
 ghost use Rattle.std.specs.List.{All};
+ghost use Rattle.merge_sets.specs.Budget.{Asks};
 ghost use Rattle.merge_sets.specs.Graph.{firsts_at};
 ghost use Rattle.merge_sets.specs.Clear.{AreLeaves};
 ghost use Rattle.merge_sets.specs.Judgement.{NoneConflict};
 ghost use Rattle.merge_sets.specs.World.{world, own_of, spreads_of, set_of, exclusive_of, conflict_of};
 
+use crate::budget::take_questions;
 use crate::graph::Graph;
 use crate::groups::{fields_named, first_fields, sorted_fields};
 use crate::judge::Judge;
@@ -106,29 +108,50 @@ pub fn are_in_conflict<J: Judge>(
     graph.judge.are_in_conflict(e, a.field, b.field)
 }
 
-/// Whether it is plain that no field of the one list conflicts with one of the other. `false` says nothing.
-pub fn agree_plainly<J: Judge>(graph: &Graph<J>, left: &[Entry], right: &[Entry]) -> bool
-    ensures { OnTrue result ((e : Bool) → NoneConflict (J.judgement graph.now.judge) e left.now right.now) }
+/// Whether it is plain that no field of the one list conflicts with one of the other. `false` says nothing. What is asked
+/// is taken off the budget.
+pub fn agree_plainly<J: Judge>(
+    graph: &Graph<J>,
+    left: &[Entry],
+    right: &[Entry],
+    budget: &mut usize,
+) -> bool
+    ensures agree { OnTrue result ((e : Bool) → NoneConflict (J.judgement graph.now.judge) e left.now right.now) }
+    ensures spent { budget.new ≤ budget.old }
 {
     match left.first() {
         Some(first) => {
             let one = first.field;
-            are_like(graph, one, left) && are_like(graph, one, right)
+            are_like(graph, one, left, budget) && are_like(graph, one, right, budget)
         }
         None => true,
     }
 }
 
 // Whether some fields are like one.
-fn are_like<J: Judge>(graph: &Graph<J>, one: usize, others: &[Entry]) -> bool
-    ensures { OnTrue result (All (λ a. J.are_alike graph.now.judge one a.field) others.now) }
+fn are_like<J: Judge>(graph: &Graph<J>, one: usize, others: &[Entry], budget: &mut usize) -> bool
+    ensures like { OnTrue result (All (λ a. J.are_alike graph.now.judge one a.field) others.now) }
+    ensures asks { Asks (length others.now) (result ≡ false) budget.old budget.new }
+    ensures spent { budget.new ≤ budget.old }
 {
+    if !take_questions(budget, others.len()) {
+        return false;
+    }
     for other in others {
         if !graph.judge.is_plainly_like(one, other.field) {
             return false;
         }
     }
     true
+}
+
+/// Whether it is plain that a field is like one. `false` says nothing. The question is taken off the budget.
+pub fn is_like<J: Judge>(graph: &Graph<J>, one: usize, other: usize, budget: &mut usize) -> bool
+    ensures like { OnTrue result (J.are_alike graph.now.judge one other) }
+    ensures asks { Asks 1 (result ≡ false) budget.old budget.new }
+    ensures spent { budget.new ≤ budget.old }
+{
+    take_questions(budget, 1) && graph.judge.is_plainly_like(one, other)
 }
 
 /// Whether nothing stands below any of them.

@@ -11,12 +11,15 @@ use Rattle.merge_sets.specs.declared.node.Entry.{Entry}
 use Rattle.merge_sets.specs.declared.node.InnerSet.{InnerSet}
 use Rattle.merge_search.specs.declared.state.Search.{Search}
 use Rattle.merge_sets.specs.Opening.{NoRepeats}
-use Rattle.merge_search.specs.Spending.{Spends, fragments_weight, sum_below}
-use Rattle.merge_tops.specs.TopCosts.{search_cost, set_cost, top_cost}
+use Rattle.merge_search.specs.Spending.{AsksUpto, Spends, Takes, credit, fragments_weight, list_cost, sum_below}
+use Rattle.merge_tops.specs.TopCosts.{later_cost, own_count, search_cost, set_cost, top_cost}
 use Rattle.merge_search.specs.Weight.{field_weight, fields_weight, fragment_weight}
 use Rattle.merge_sets.specs.World.{World}
 use Rattle.merge_sets.proofs.Distinct.{repeats_tail}
 use Rattle.merge_sets.proofs.OneName.{no_entry}
+use Rattle.merge_search.proofs.Costs.{credit_same, list_all}
+use Rattle.merge_search.proofs.Steps.{drop_next}
+use Rattle.merge_search.proofs.Weights.{length_weight}
 use Rattle.merge_search.proofs.Worth.{credit_most, sum_kept, sum_more}
 
 abbrev pub no_inner : InnerSet
@@ -30,6 +33,73 @@ times_left f m (x ∷ xs) = sum_by-cons (λ x. m * f x) x xs ∙ ap (λ (n : ℕ
     spread m x y = omega arith
 
 module _ (w : World) where
+  -- what was asked is taken
+  pub asks_take : (m : ℕ) (s t : Search) → AsksUpto m s t → Takes w m s t
+  asks_take m s t a = record { paid = omega (arith, a.judged, credit_same w s t a.keeps.pairs a.keeps.searched a.keeps.repeated) }
+
+  pub takes_none : (n : ℕ) (s : Search) → Takes w n s s
+  takes_none n s = record { paid = omega arith }
+
+  pub takes_then : (m n : ℕ) (s t u : Search) → Takes w m s t → Takes w n t u → Takes w (m + n) s u
+  takes_then m n s t u p q = record { paid = omega (arith, p.paid, q.paid) }
+
+  pub takes_more : (m n : ℕ) (s t : Search) → m ≤ n → Takes w m s t → Takes w n s t
+  takes_more m n s t le p = record { paid = omega (arith, le, p.paid) }
+
+  pub takes_spend : (m n : ℕ) (s t : Search) → m ≤ 8 * n → Takes w m s t → Spends w n s t
+  takes_spend m n s t le p = record { paid = omega (arith, le, p.paid) }
+
+  pub spends_asked : (m n k : ℕ) (s t u : Search) → 8 * n + m ≤ 8 * k → AsksUpto m s t → Spends w n t u → Spends w k s u
+  spends_asked m n k s t u le a p = record { paid = omega (arith, le, p.paid, (asks_take m s t a).paid) }
+
+  -- one after the other of a list, after something else
+  module _ {X : Type 0} (f : X → ℕ) (xs : List X) (d : X) (c : ℕ) where
+    pub takes_start : (s t : Search) → Takes w c s t → Takes w (c + sum_by f (take 0 xs)) s t
+    takes_start s t p = record { paid = omega (arith, p.paid) }
+
+    pub takes_next : (k : ℕ) (s t u : Search) → k < length xs → Takes w (c + sum_by f (take k xs)) s t → Takes w (f (get_or xs k d)) t u → Takes w (c + sum_by f (take (k + 1) xs)) s u
+    takes_next k s t u less p q = record { paid = omega (arith, p.paid, q.paid, sum_by_more f xs k d less) }
+
+    pub takes_list : (k n : ℕ) (s t : Search) → length xs ≤ k → c + sum_by f xs ≤ n → Takes w (c + sum_by f (take k xs)) s t → Takes w n s t
+    takes_list k n s t past most p = record { paid = omega (arith, p.paid, ap (sum_by f) (take_all k xs past), most) }
+
+  -- a field and some others cost no more than the product of their weights
+  pub list_few : (a : Entry) (fields : List Entry) → list_cost w a fields ≤ 8 * (field_weight w a * fields_weight w fields)
+  list_few a fields = omega (arith, list_all w a fields)
+
+  -- a field and those after it
+  pub later_next : (xs : List Entry) (k : ℕ) → k < length xs
+      → later_cost w (drop k xs) ≡ field_weight w (get_or xs k no_entry) * fields_weight w (drop (k + 1) xs) + later_cost w (drop (k + 1) xs)
+  later_next xs k less = ap (later_cost w) (drop_next xs xs k no_entry refl less)
+
+  later_half : (xs : List Entry) → 2 * later_cost w xs + fields_weight w xs ≤ fields_weight w xs * fields_weight w xs
+  later_half [] = omega arith
+  later_half (x ∷ xs) = omega (arith, later_half xs, sum_by-cons (field_weight w) x xs, ap (λ (n : ℕ). n * n) (sum_by-cons (field_weight w) x xs))
+
+  -- each two of some fields, and what is asked before, are no more than the square
+  pub each_spends : (xs : List Entry) (s t u : Search) → AsksUpto (2 * length xs) s t → Takes w (8 * later_cost w xs + 4 * (length xs * length xs)) t u
+      → Spends w (fields_weight w xs * fields_weight w xs) s u
+  each_spends xs s t u a p =
+      let f = fields_weight w xs in
+      let few = length_weight w xs in
+      record { paid = omega (arith, (asks_take (2 * length xs) s t a).paid, p.paid, later_half xs, few, mul-le (length xs) (length xs) f f few few) }
+
+  pub passed_spends : (xs : List Entry) (s t : Search) → AsksUpto (2 * length xs) s t → Spends w (fields_weight w xs * fields_weight w xs) s t
+  passed_spends xs s t a = record { paid = omega (arith, (asks_take (2 * length xs) s t a).paid, later_half xs, length_weight w xs) }
+
+  -- so much of it may still be taken
+  pub record TakesBut (all rest : ℕ) (old new : Search) : Type 0 where
+    pub paid : new.judged + 8 * (credit w old + rest) ≤ old.judged + 8 * (credit w new + all)
+
+  pub but_start : (n : ℕ) (s : Search) → TakesBut n n s s
+  but_start n s = record { paid = omega arith }
+
+  pub but_next : (all rest less n : ℕ) (s t u : Search) → n + less ≤ rest → TakesBut all rest s t → Spends w n t u → TakesBut all less s u
+  but_next all rest less n s t u le p q = record { paid = omega (arith, le, p.paid, q.paid) }
+
+  pub but_end : (all rest m : ℕ) (s t u : Search) → TakesBut all rest s t → AsksUpto m t u → Takes w (8 * all + m) s u
+  but_end all rest m s t u p a = record { paid = omega (arith, p.paid, (asks_take m t u a).paid) }
+
   pub spends_then : (m n : ℕ) (s t u : Search) → Spends w m s t → Spends w n t u → Spends w (m + n) s u
   spends_then m n s t u p q = record { paid = omega (arith, p.paid, q.paid) }
 
@@ -46,11 +116,6 @@ module _ (w : World) where
 
     pub spends_list : (k n : ℕ) (s t : Search) → length xs ≤ k → sum_by f xs ≤ n → Spends w (sum_by f (take k xs)) s t → Spends w n s t
     spends_list k n s t past most p = record { paid = omega (arith, p.paid, ap (sum_by f) (take_all k xs past), most) }
-
-  -- a field, and those after it
-  pub rest_cost : (xs : List Entry) (k : ℕ) → k < length xs → field_weight w (get_or xs k no_entry) * fields_weight w (drop (k + 1) xs) ≤ field_weight w (get_or xs k no_entry) * fields_weight w xs
-  rest_cost xs k less = mul-le (field_weight w (get_or xs k no_entry)) (fields_weight w (drop (k + 1) xs)) (field_weight w (get_or xs k no_entry)) (fields_weight w xs) (omega arith)
-      (omega (arith, sum_by-take-drop (field_weight w) xs (k + 1)))
 
 -- whether a number is in a list
 isin : ℕ → List ℕ → Bool
@@ -133,7 +198,7 @@ module _ (w : World) where
 pub slice_within : {X : Type 0} (f : X → ℕ) (xs : List X) (i j n : ℕ) → sum_by f (take j (take n (drop i xs))) ≤ sum_by f xs
 slice_within f xs i j n = omega (arith, sum_by-take-le f (take n (drop i xs)) j, sum_by-take-le f (drop i xs) n, sum_by-take-drop f xs i)
 
--- what was compared when the search ends
-pub all_compared : (w : World) (inner : List InnerSet) (order : List ℕ) (s t : Search) → s.judged ≡ 0 → Spends w (sum_by (set_cost w inner) order) s t
-    → t.judged ≤ 4 * search_cost w inner order
-all_compared w inner order s t none p = omega (arith, p.paid, none, credit_most w t)
+-- what was compared when the search ends, with what was asked before
+pub all_compared : (w : World) (inner : List InnerSet) (order : List ℕ) (n : ℕ) (s t : Search) → s.judged ≡ 0 → Spends w (sum_by (set_cost w inner) order) s t
+    → n ≤ 64 * own_count w → t.judged + n ≤ 8 * search_cost w inner order
+all_compared w inner order n s t none p few = omega (arith, p.paid, none, few, credit_most w t)

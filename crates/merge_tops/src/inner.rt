@@ -19,10 +19,10 @@ ghost use Rattle.merge_tops.specs.TopCosts.{inner_cost, inner_set_cost, part_in,
 ghost use Rattle.merge_tops.specs.TopCounts.{OpensAtTop, inner_list};
 ghost use Rattle.merge_search.specs.Weight.{fields_weight, fragment_weight, weight};
 
+use crate::asking::ask_groups;
 use crate::counts::{TopCounts, open_counted};
 use crate::pairs::{compare_each, compare_rest};
 use bit_matrix::set::BitSet;
-use merge_certificates::clear::are_clear;
 use merge_search::state::{Search, put_opening};
 use merge_sets::graph::Graph;
 use merge_sets::groups::{fields_named, first_fields, make_set, sorted_fields};
@@ -105,7 +105,7 @@ fn compare_groups<J: Judge>(
     ensures spends { let w = world J.judgement graph.now in
         OnOk result (Spends w (fields_weight w left.now * fields_weight w right.now) search.old search.new) }
 {
-    if left.len() > 1 && are_clear(search.alloc, graph, false, left, right)? {
+    if ask_groups(graph, left, right, search)? {
         return Ok(());
     }
     for a in left {

@@ -1,28 +1,29 @@
 //! Comparing the fields of one response name with each other.
-ghost use Rattle.std.specs.Prelude.{◌*◌, OnOk, false};
+ghost use Rattle.std.specs.Prelude.{◌+◌, ◌*◌, OnOk, false, length};
 ghost use Rattle.std.specs.Bool.{OnTrue};
 ghost use Rattle.std.specs.List.{All};
 ghost use Rattle.merge_sets.specs.World.{world};
-ghost use Rattle.merge_sets.specs.Clear.{AreClear, AreOthers, IsSumWithin};
-ghost use Rattle.merge_sets.specs.Kinds.{NeverFailsWith};
+ghost use Rattle.merge_sets.specs.Clear.{AreOthers, IsSumWithin};
+ghost use Rattle.merge_sets.specs.Kinds.{AreAgreeingRows, NeverFailsWith};
+ghost use Rattle.merge_certificates.specs.Below.{KnowsPairs};
 ghost use Rattle.merge_sets.specs.Plain.{ArePlain};
 ghost use Rattle.merge_search.specs.Work.{Did, Done};
 ghost use Rattle.merge_search.specs.Reports.{FindsAll, AtRest};
-ghost use Rattle.merge_search.specs.Spending.{Spends};
+ghost use Rattle.merge_search.specs.Spending.{Spends, Takes, list_cost};
 ghost use Rattle.merge_search.specs.Weight.{field_weight, fields_weight};
+ghost use Rattle.merge_tops.specs.TopCosts.{later_cost};
 ghost use Rattle.merge_tops.specs.Tops.{AllBefore, AtBefore};
 
+use crate::asking::{ask_agreeing, ask_below, ask_kinds, ask_passed, square};
 use bit_matrix::set::BitSet;
-use merge_certificates::below::{known_below, others_from};
-use merge_certificates::failing::numbered_kinds;
+use merge_certificates::below::{Below, others_from};
+use merge_certificates::failing::Numbered;
 use merge_search::search::compare_fields;
-use merge_search::state::{Search, is_full};
+use merge_search::state::{Search, count_fields, is_full};
 use merge_sets::graph::Graph;
 use merge_sets::judge::Judge;
-use merge_sets::kinds::agreeing_rows;
 use merge_sets::node::Entry;
-use merge_sets::plain::{are_plain_below, is_plain_below};
-use merge_sets::view::agree_plainly;
+use merge_sets::plain::is_plain_below;
 use std::alloc::AllocError;
 
 /// Compares a field with some others.
@@ -40,8 +41,8 @@ pub(crate) fn compare_rest<J: Judge>(
         OnOk result (Did w (λ M. All (λ b. Done w M false a b) rest.now) search.old search.new) }
     ensures real { let w = world J.judgement graph.now in
         OnOk result (FindsAll w false (AtRest a rest.now) (AtRest a rest.now) search.old search.new) }
-    ensures spends { let w = world J.judgement graph.now in
-        OnOk result (Spends w (field_weight w a * fields_weight w rest.now) search.old search.new) }
+    ensures takes { let w = world J.judgement graph.now in
+        OnOk result (Takes w (list_cost w a rest.now) search.old search.new) }
 {
     if is_full(graph, search) {
         return Ok(());
@@ -50,19 +51,6 @@ pub(crate) fn compare_rest<J: Judge>(
         compare_fields(graph, a, *b, false, search)?;
     }
     Ok(())
-}
-
-// Whether it is plain that there is nothing to find between some fields. Two that have nothing below are compared at
-// once.
-fn are_passed<J: Judge>(graph: &Graph<J>, fields: &[Entry], plain: &BitSet) -> bool
-    requires { ArePlain (world J.judgement graph.now) plain.now }
-    ensures { OnTrue result (AreClear (world J.judgement graph.now) false fields.now fields.now) }
-{
-    let is_wide = fields.len() > 2 || fields.iter().any(|a| a.below.is_some());
-    if !is_wide || !are_plain_below(graph, fields, plain) {
-        return false;
-    }
-    agree_plainly(graph, fields, fields)
 }
 
 // Compares a field with some others, unless it is known to fail with none of them, and what stands below it is plain.
@@ -116,6 +104,56 @@ fn compare_others<J: Judge>(
     compare_rest(graph, a, others, search)
 }
 
+// Compares each field with those after it, but for those of which it is known that they merge.
+fn compare_known<J: Judge>(
+    graph: &Graph<J>,
+    fields: &[Entry],
+    clear: &BitSet,
+    below: &Below,
+    kinds: &Numbered,
+    plain: &BitSet,
+    search: &mut Search,
+) -> Result<(), AllocError>
+    requires clear { AreAgreeingRows (J.judgement graph.now.judge) false fields.now fields.now clear.now }
+    requires pairs { KnowsPairs (world J.judgement graph.now) false fields.now below.now kinds.now }
+    requires plain { ArePlain (world J.judgement graph.now) plain.now }
+    ensures done { let w = world J.judgement graph.now in
+        OnOk result (Did w (λ M. AllBefore (Done w M false) fields.now) search.old search.new) }
+    ensures real { let w = world J.judgement graph.now in
+        OnOk result (FindsAll w false (AtBefore fields.now) (AtBefore fields.now) search.old search.new) }
+    ensures takes { let w = world J.judgement graph.now in let n = length fields.now in
+        OnOk result (Takes w (8 * later_cost w fields.now + n * n) search.old search.new) }
+{
+    let most = square(fields);
+    let mut budget = most;
+    for k in 0..fields.len() {
+        let is_clear = clear.contains(k);
+        let others = others_from(
+            search.alloc,
+            graph,
+            false,
+            fields,
+            k,
+            k + 1,
+            is_clear,
+            below,
+            kinds,
+            &mut budget,
+        )?;
+        compare_others(
+            graph,
+            fields[k],
+            &fields[k + 1..],
+            others.as_slice(),
+            is_clear,
+            plain,
+            search,
+        )?;
+    }
+    count_fields(search, most - budget);
+    Ok(())
+}
+
 // Compares each field with those after it, but for those of which it is known, of many at once, that they merge.
 fn compare_all<J: Judge>(
     graph: &Graph<J>,
@@ -128,37 +166,13 @@ fn compare_all<J: Judge>(
         OnOk result (Did w (λ M. AllBefore (Done w M false) fields.now) search.old search.new) }
     ensures real { let w = world J.judgement graph.now in
         OnOk result (FindsAll w false (AtBefore fields.now) (AtBefore fields.now) search.old search.new) }
-    ensures spends { let w = world J.judgement graph.now in let f = fields_weight w fields.now in
-        OnOk result (Spends w (f * f) search.old search.new) }
+    ensures takes { let w = world J.judgement graph.now in let n = length fields.now in
+        OnOk result (Takes w (8 * later_cost w fields.now + 4 * (n * n)) search.old search.new) }
 {
-    let clear = agreeing_rows(search.alloc, graph, false, fields, fields)?;
-    let most = fields.len().saturating_mul(fields.len()) / 4;
-    let below = known_below(search.alloc, graph, false, fields, most)?;
-    let kinds = numbered_kinds(search.alloc, graph, fields, &clear)?;
-    for k in 0..fields.len() {
-        let is_clear = clear.contains(k);
-        let others = others_from(
-            search.alloc,
-            graph,
-            false,
-            fields,
-            k,
-            k + 1,
-            is_clear,
-            &below,
-            &kinds,
-        )?;
-        compare_others(
-            graph,
-            fields[k],
-            &fields[k + 1..],
-            others.as_slice(),
-            is_clear,
-            plain,
-            search,
-        )?;
-    }
-    Ok(())
+    let clear = ask_agreeing(graph, fields, search)?;
+    let below = ask_below(graph, fields, search)?;
+    let kinds = ask_kinds(graph, fields, &clear, search)?;
+    compare_known(graph, fields, &clear, &below, &kinds, plain, search)
 }
 
 /// Compares each field with those after it. Where what stands below is plain, or merges, many that are alike are passed
@@ -184,7 +198,7 @@ pub(crate) fn compare_each<J: Judge>(
     if fields.len() < 2 {
         return Ok(());
     }
-    if are_passed(graph, fields, plain) {
+    if ask_passed(graph, fields, plain, search) {
         return Ok(());
     }
     compare_all(graph, fields, plain, search)

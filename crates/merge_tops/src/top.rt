@@ -16,20 +16,18 @@ ghost use Rattle.merge_tops.specs.TopCounts.{OpensAtTop, most_openings, set_list
 ghost use Rattle.merge_search.specs.Counts.{all_spreads};
 ghost use Rattle.merge_search.specs.Weight.{weight};
 
+use crate::asking::{ask_merged, ask_plain};
 use crate::counts::{TopCounts, add_counts, no_counts, open_counted};
 use crate::inner::search_inner;
 use crate::pairs::compare_each;
 use crate::passing::{note_merged, note_plain, pass_over};
 use bit_matrix::set::BitSet;
-use merge_certificates::clear::MANY;
-use merge_certificates::quiet::are_quiet;
-use merge_certificates::unions::Union;
 use merge_search::search::{compare_fragments, compare_own};
-use merge_search::state::{Search, is_full, no_search, put_opening};
+use merge_search::state::{Search, count_fields, is_full, no_search, put_opening};
 use merge_sets::graph::Graph;
 use merge_sets::judge::Judge;
-use merge_sets::plain::{is_plain, passed_over};
-use merge_sets::view::{firsts, group, order, own, set, spreads};
+use merge_sets::plain::is_plain;
+use merge_sets::view::{firsts, group, order, set, spreads};
 use std::alloc::{AllocError, Global};
 
 // Compares the own fields of a set, by response names.
@@ -277,24 +275,6 @@ fn compare_set<J: Judge>(
     compare_spreads(graph, s, plain, search, counts)
 }
 
-// Whether all that stands in a set is known to merge. It takes no longer than comparing its spreads with all that it
-// has would; where these pairs are few, `false` says nothing.
-fn is_merged<J: Judge>(graph: &Graph<J>, s: usize, search: &Search) -> Result<bool, AllocError>
-    ensures { IfOk result (λ b. OnTrue b (AreQuiet (world J.judgement graph.now) false (s ∷ []))) }
-{
-    let list = spreads(graph, s).len();
-    let mut pairs = list.saturating_mul(list.saturating_add(own(graph, s).len()));
-    if pairs < MANY {
-        return Ok(false);
-    }
-    let mut sets = Vec::new(search.alloc);
-    sets.push(s)?;
-    let mut unions = Vec::new(search.alloc);
-    unions.push(Union { sets, flag: false })?;
-    let is_quiet = are_quiet(search.alloc, graph, unions, false, &mut pairs)?;
-    Ok(is_quiet)
-}
-
 // Passes over a set in which all merges.
 fn pass_set<J: Judge>(graph: &Graph<J>, s: usize, search: &mut Search) -> Result<(), AllocError>
     requires { AreQuiet (world J.judgement graph.now) false (s ∷ []) }
@@ -329,7 +309,7 @@ fn search_set<J: Judge>(
     if is_full(graph, search) {
         return Ok(());
     }
-    if is_merged(graph, s, search)? {
+    if ask_merged(graph, s, search)? {
         return pass_set(graph, s, search);
     }
     let start = search.found.len();
@@ -348,7 +328,8 @@ fn search_set<J: Judge>(
 /// Of `n` fragments at most `n (n - 1)` pairs are compared, and at least those that some set spreads together, unless
 /// it found enough. No search opens more than `n` fragments, and all together open each no more often than
 /// `most_openings` says: three times for each set, once for each inline fragment, and a hundred times. Fields are compared
-/// one by one at most four times as often as `search_cost` says: by the numbers of fields in and below the sets.
+/// at most eight times as often as `search_cost` says: by the numbers of fields in and below the sets. Counted with them
+/// is what is asked, and looked at, to pass many at once.
 ///
 /// # Errors
 ///
@@ -367,14 +348,15 @@ pub fn search_all<J: Judge>(alloc: Global, graph: &Graph<J>) -> Result<Search, A
         let most = most_openings w graph.now.inner.items graph.now.order.items in
         IfOk result (λ m. m.looked ≤ all_spreads w * most) }
     ensures compares { let w = world J.judgement graph.now in
-        IfOk result (λ m. m.judged ≤ 4 * search_cost w graph.now.inner.items graph.now.order.items) }
+        IfOk result (λ m. m.judged ≤ 8 * search_cost w graph.now.inner.items graph.now.order.items) }
 {
-    let plain = passed_over(alloc, graph)?;
+    let (plain, asked) = ask_plain(alloc, graph)?;
     let mut search = no_search(alloc);
     let mut counts = no_counts();
     for s in order(graph) {
         search_set(graph, *s, &plain, &mut search, &mut counts)?;
     }
+    count_fields(&mut search, asked);
     add_counts(&mut search, &counts);
     Ok(search)
 }

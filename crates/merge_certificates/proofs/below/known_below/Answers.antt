@@ -13,5 +13,5 @@ pub returns-then-of_all-clause-knows : goal.returns-then-of_all-clause-knows
 returns-then-of_all-clause-knows g c = λ k l a b known at to.
     let v = world g.J.Judge.judgement c.args.graph.now in
     let xs = c.args.fields.now in
-    let clear = subst (λ z. OnTrue z (AreClearBelow v c.args.e xs xs)) c.if-of_all.true c.in_ok-of_all.ensures in
+    let clear = subst (λ z. OnTrue z (AreClearBelow v c.args.e xs xs)) c.if-of_all.true c.in_ok-of_all.ensures.clear in
     clear a b (at_of xs k a at) (at_of xs l b to)

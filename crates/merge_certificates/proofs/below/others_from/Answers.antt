@@ -7,6 +7,6 @@ pub returns-clause-rest : goal.returns-clause-rest
 returns-clause-rest g c knows l a b more p q = elim (c.in_ok-others.ensures.rest knows.indexed l b more q) [
   | inl there ↦ inl there
   | inr known ↦ inr (merges {a = a} {b = b}
-      (c.in_ok-agreeing.ensures knows.kinds l a b p q (subst (λ zs. AgreesBy zs c.in_ok-agreeing.agreeing l) c.as_slice-numbers.ensures.value known.1))
+      (c.in_ok-agreeing.ensures.agree knows.kinds l a b p q (subst (λ zs. AgreesBy zs c.in_ok-agreeing.agreeing l) c.as_slice-numbers.ensures.value known.1))
       (knows.below c.args.k l a b known.0 p q))
 ]

@@ -9,7 +9,7 @@ returns-then-branch-clause-knows g c = λ k l a b known p q. elim known [
   | inl all ↦ cc
   | inr some ↦ elim some [
     | inl both ↦ absurd (clash (has c.new.result k) both.0 (c.new.ensures k))
-    | inr at ↦ c.in_ok-touched.ensures k l a b at p q
+    | inr at ↦ c.in_ok-touched.ensures.knows k l a b at p q
   ]
 ]
 
@@ -19,7 +19,7 @@ returns-clause-knows g c = λ k l a b known p q.
     elim known [
       | inl all ↦ cc
       | inr some ↦ elim some [
-        | inl both ↦ c.in_ok-good.ensures k l a b (only k both.0) (only l both.1) p q
-        | inr at ↦ c.in_ok-touched.ensures k l a b at p q
+        | inl both ↦ c.in_ok-good.ensures.merge k l a b (only k both.0) (only l both.1) p q
+        | inr at ↦ c.in_ok-touched.ensures.knows k l a b at p q
       ]
     ]

@@ -4,8 +4,8 @@ use Rattle.merge_certificates.proofs.KindNumbers.{kinds_agree}
 use Rattle.merge_certificates.specs.Failing.{AgreeKinds}
 use Rattle.merge_certificates.proofs.failing.agreeing_with.Goals as goal
 
-pub returns : goal.returns
-returns g c stand =
+pub returns-clause-agree : goal.returns-clause-agree
+returns-clause-agree g c stand =
     let j = g.J.Judge.judgement c.args.graph.now.judge in
     let e = c.args.e in
     let kinds = c.args.numbered.now.kinds.items in
@@ -16,4 +16,4 @@ returns g c stand =
     let look = c.in-Some-get.ensures.lookup in
     let at : slice_get kinds i ≡ Some one = subst (λ zs. slice_get zs i ≡ Some one) c.deref.ensures.value (slice_get_read c.deref.result.now (length c.deref.result.now) i one refl look.3.0 look.1) in
     kinds_agree j e c.args.fields.now numbers kinds c.args.k i one c.in_ok-set.set
-    stand told at (subst (λ zs. AgreeKinds j e one zs c.in_ok-set.set) c.as_slice-2.ensures.value c.in_ok-set.ensures)
+    stand told at (subst (λ zs. AgreeKinds j e one zs c.in_ok-set.set) c.as_slice-2.ensures.value c.in_ok-set.ensures.agree)

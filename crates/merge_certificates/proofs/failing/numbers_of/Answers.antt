@@ -11,6 +11,7 @@ loop-k-init g c =
     let none = c.new-numbers.ensures.items in (
       ap length none,
       λ m i a p told. absurd (none_told i (sym (ap (λ zs. get_or zs m None) none ∙ get_or_past [] m None (omega arith)) ∙ told)),
+      omega arith,
     )
 
 pub loop-k-preserved : goal.loop-k-preserved
@@ -20,8 +21,9 @@ loop-k-preserved g c =
     let is = c.in_ok-push.ensures.items in
     let longer : length c.push.new.self.items ≡ c.loop-k.k + 1 = ap length is ∙ length-append old (one ∷ []) ∙ ap (λ n. n + 1) c.loop-k.invariant.0 in (
       longer,
-      one_numbered (g.J.Judge.are_kin c.args.graph.now.judge) c.args.kinds.now c.args.fields.now old c.push.new.self.items one c.loop-k.k is c.loop-k.invariant.0 c.number_of.ensures c.loop-k.invariant.1,
+      one_numbered (g.J.Judge.are_kin c.args.graph.now.judge) c.args.kinds.now c.args.fields.now old c.push.new.self.items one c.loop-k.k is c.loop-k.invariant.0 c.number_of.ensures.kind c.loop-k.invariant.1,
+      omega (arith, c.loop-k.invariant.2, c.number_of.ensures.spent),
     )
 
-pub returns : goal.returns
-returns g c = c.loop-k.invariant.1
+pub returns-clause-numbers : goal.returns-clause-numbers
+returns-clause-numbers g c = c.loop-k.invariant.1

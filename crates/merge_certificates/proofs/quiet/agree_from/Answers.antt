@@ -5,10 +5,10 @@ use Rattle.merge_sets.specs.Judgement.{NoneConflict}
 use Rattle.merge_sets.proofs.Laws.{on_true_weaker, both_flags}
 use Rattle.merge_certificates.proofs.quiet.agree_from.Goals as goal
 
-pub returns : goal.returns
-returns g c =
+pub returns-clause-agree : goal.returns-clause-agree
+returns-clause-agree g c =
     let j = g.J.Judge.judgement c.args.graph.now.judge in
     let xs = c.args.fields.now in
-    let one = subst (λ b. OnTrue b (NoneConflict j true xs xs)) c.if-not-is_found.false c.in_ok-is_found.ensures in
+    let one = subst (λ b. OnTrue b (NoneConflict j true xs xs)) c.if-not-is_found.false c.in_ok-is_found.ensures.agree in
     IfOk-weaker c.agree_together-2.result _ _
-    (λ b h. on_true_weaker b (λ other e from. both_flags (λ y. NoneConflict j y xs xs) e one other) h) c.agree_together-2.ensures
+    (λ b h. on_true_weaker b (λ other e from. both_flags (λ y. NoneConflict j y xs xs) e one other) h) c.agree_together-2.ensures.agree

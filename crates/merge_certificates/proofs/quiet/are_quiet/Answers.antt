@@ -7,8 +7,8 @@ use Rattle.merge_sets.proofs.Laws.{clash, on_true_weaker}
 use Rattle.merge_certificates.proofs.Merged.{quiet_whole}
 use Rattle.merge_certificates.proofs.quiet.are_quiet.Goals as goal
 
-pub returns : goal.returns
-returns g c =
+pub returns-clause-quiet : goal.returns-clause-quiet
+returns-clause-quiet g c =
     let told = c.in_ok-is_quiet.ensures in
     let names = c.are_quiet_but.new.apart.names in
     let same = told.full c.none_apart-apart.ensures.room in

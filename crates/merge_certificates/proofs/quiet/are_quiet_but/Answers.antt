@@ -1,4 +1,4 @@
-use Rattle.std.proofs.Common.{Bool, ℕ, refl, subst, ap, ◌∙◌}
+use Rattle.std.proofs.Common.{arith, Bool, ℕ, refl, subst, ap, ◌∙◌}
 use Rattle.std.specs.Bool.{OnTrue}
 use Rattle.std.specs.Option.{IfSome}
 use Rattle.merge_certificates.specs.declared.quiet.Apart.{Apart}
@@ -8,7 +8,7 @@ use Rattle.merge_certificates.proofs.Merged.{quiet_popped, sets_merged}
 use Rattle.merge_certificates.proofs.quiet.are_quiet_but.Goals as goal
 
 pub loop-rest-init : goal.loop-rest-init
-loop-rest-init g c = (λ none. refl, λ m covers all. all)
+loop-rest-init g c = (λ none. refl, λ m covers all. all, omega arith, refl)
 
 pub loop-rest-preserved : goal.loop-rest-preserved
 loop-rest-preserved g c =
@@ -27,4 +27,6 @@ loop-rest-preserved g c =
       λ m covers all.
           let z = step m covers all in
           c.loop-rest.invariant.1 m (λ n h. covers n (told.kept n h)) (quiet_popped v m rest c.loop-rest.waiting.items next c.in-Some.ensures.items z.0 (sets_merged v m x next.sets.items own hold z.1)),
+      omega (arith, c.loop-rest.invariant.2, c.is_quiet_set.ensures.spent),
+      c.loop-rest.invariant.3,
     )

@@ -20,7 +20,7 @@ is_quiet_group-requires g c =
     subst (λ zs. All (λ (a : Entry). a.response ≡ n) zs) (sym is) (λ k d l. named_is n own (get_or (named n own) k d) (Contains-get_or (named n own) k d l))
 
 pub loop-first-init : goal.loop-first-init
-loop-first-init g c = (c.first_fields-first-items.ensures, λ n h. h, λ none. refl, λ m covers all. (all, λ k d l. none c.first_fields-first-items.result.now k l))
+loop-first-init g c = (c.first_fields-first-items.ensures, λ n h. h, λ none. refl, λ m covers all. (all, λ k d l. none c.first_fields-first-items.result.now k l), omega arith)
   where
     none : (xs : List Entry) (k : ℕ) {X : Type 0} → k < length (take 0 xs) → X
     none xs k l = absurd (omega (arith, length-take 0 xs, l))
@@ -45,6 +45,7 @@ loop-first-preserved g c =
           let z = step m covers all in
           let y = c.loop-first.invariant.3 m (λ n h. covers n (told.kept n h)) z.0 in
           (y.0, All-more (λ (h : Entry). AllMergeBut v m x (named h.response own)) fields c.loop-first.first-index no_entry c.loop-first-test.true y.1 (subst (AllMergeBut v m x) is z.1)),
+      omega (arith, c.loop-first.invariant.4, c.is_quiet_group.ensures.spent),
     )
 
 pub returns : goal.returns
@@ -60,4 +61,5 @@ returns g c =
           let whole = subst (λ zs. All (λ (h : Entry). AllMergeBut v m x (named h.response own)) zs) (take_all c.loop-first.first-index fields c.loop-first-test.false) y.1 in
           (y.0, groups_merged v m x _ own c.args.set.now.listed (subst (λ zs. All (λ (h : Entry). AllMergeBut v m x (named h.response own)) zs) c.loop-first.invariant.0 whole));
       full = c.loop-first.invariant.2;
+      spent = c.loop-first.invariant.4;
     }

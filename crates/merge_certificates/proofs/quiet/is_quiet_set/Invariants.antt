@@ -1,4 +1,4 @@
-use Rattle.std.proofs.Common.{Bool, ℕ, ◌≡◌, take}
+use Rattle.std.proofs.Common.{Bool, ℕ, ◌≡◌, ◌≤◌, take}
 use Rattle.std.specs.List.{All}
 use Rattle.merge_sets.specs.declared.node.Entry.{Entry}
 use Rattle.merge_sets.specs.Indexed.{firsts_of}
@@ -15,3 +15,4 @@ invariant-loop-first g l =
     × (l.fn.apart.room ≡ 0 → l.apart ≡ l.fn.apart)
     × ((m : ℕ → Bool) → Covers m l.apart.names → AllQuietBut w m l.waiting.items → AllQuietBut w m l.fn.waiting.items
     × All (λ (f : Entry). AllMergeBut w m l.x (named f.response l.set.own.items)) (take l.first-index l.first-items))
+    × (l.budget ≤ l.fn.budget)

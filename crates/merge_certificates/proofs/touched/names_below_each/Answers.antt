@@ -10,6 +10,7 @@ loop-k-init g c =
     let none = c.new-lists.ensures.items in (
       ap length none,
       λ m b v p told. absurd (no_some v (sym (ap (λ zs. get_or zs m None) none ∙ get_or_past [] m None (omega arith)) ∙ told)),
+      omega arith,
     )
 
 pub loop-k-preserved : goal.loop-k-preserved
@@ -21,5 +22,6 @@ loop-k-preserved g c =
     let is = c.in_ok-push.ensures.items in
     let longer : length c.push.new.self.items ≡ c.loop-k.k + 1 = ap length is ∙ length-append old (one ∷ []) ∙ ap (λ n. n + 1) c.loop-k.invariant.0 in (
       longer,
-      one_told v c.args.names.now fields no_entry old c.push.new.self.items one c.loop-k.k is c.loop-k.invariant.0 c.in_ok-names_below.ensures c.loop-k.invariant.1,
+      one_told v c.args.names.now fields no_entry old c.push.new.self.items one c.loop-k.k is c.loop-k.invariant.0 c.in_ok-names_below.ensures.names c.loop-k.invariant.1,
+      omega (arith, c.loop-k.invariant.2, c.names_below.ensures.spent),
     )

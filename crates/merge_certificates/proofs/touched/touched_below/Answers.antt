@@ -7,8 +7,8 @@ use Rattle.merge_sets.specs.World.{world}
 use Rattle.merge_certificates.proofs.Touching.{apart_below, none_at}
 use Rattle.merge_certificates.proofs.touched.touched_below.Goals as goal
 
-pub returns : goal.returns
-returns g c =
+pub returns-clause-knows : goal.returns-clause-knows
+returns-clause-knows g c =
     let v = world g.J.Judge.judgement c.args.graph.now in
     let names = c.are_quiet_but.new.apart.names in
     let unions = c.unions_below.new.unions.items in
@@ -16,7 +16,7 @@ returns g c =
     let but = subst (λ b. OnTrue b ((l : ℕ → Bool) → Covers l names → AllQuietBut v l unions)) c.if-not-is_known.false c.in_ok-is_known.ensures.quiet in
     IfOk-weaker c.names_below_each.result _ _
     (λ t are. apart_below v names e c.args.fields.now unions t c.in_ok-unions_below.ensures.joined (but (λ n. has names n) (λ n h. h)) are)
-    c.names_below_each.ensures
+    c.names_below_each.ensures.touched
 
-pub returns-then-not-is_known : goal.returns-then-not-is_known
-returns-then-not-is_known g c = λ k l a b at. absurd (none_at c.none_touched.result c.none_touched.ensures k l at)
+pub returns-then-not-is_known-clause-knows : goal.returns-then-not-is_known-clause-knows
+returns-then-not-is_known-clause-knows g c = λ k l a b at. absurd (none_at c.none_touched.result c.none_touched.ensures k l at)

@@ -23,6 +23,6 @@ returns-clause-knows g c =
       pairs = record {
         below = subst (λ xs. KnowsBelow v e xs c.in_ok-below.below) c.as_slice.ensures.value c.in_ok-below.ensures.knows;
         indexed = subst (λ xs. IsIndexed c.in_ok-below.below (length xs)) c.as_slice.ensures.value c.in_ok-below.ensures.indexed;
-        kinds = subst (λ xs. StandFor v.judgement c.in_ok-numbered.numbered.kinds.items xs c.in_ok-numbered.numbered.numbers.items) c.as_slice-2.ensures.value c.in_ok-numbered.ensures;
+        kinds = subst (λ xs. StandFor v.judgement c.in_ok-numbered.numbered.kinds.items xs c.in_ok-numbered.numbered.numbers.items) c.as_slice-2.ensures.value c.in_ok-numbered.ensures.stand;
       };
     }

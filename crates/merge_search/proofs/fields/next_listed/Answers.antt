@@ -8,8 +8,7 @@ use Rattle.merge_sets.specs.World.{world}
 use Rattle.merge_search.specs.Tasks.{Meets, MeetsFields, MeetsList}
 use Rattle.merge_search.proofs.Leading.{leads_done, leads_next, leads_turn}
 use Rattle.merge_search.proofs.Steps.{list_end, list_next}
-use Rattle.merge_search.specs.Spending.{CostsMore, Pays}
-use Rattle.merge_search.specs.Weight.{field_weight, fields_weight}
+use Rattle.merge_search.specs.Spending.{CostsMore, Pays, list_cost}
 use Rattle.merge_search.proofs.Costs.{list_open, list_settled}
 use Rattle.merge_search.proofs.fields.next_listed.Goals as goal
 
@@ -53,7 +52,7 @@ returns-then-k-fields-clause-pays g c =
     let v = world g.J.Judge.judgement c.args.graph.now in
     let a = c.args.a in
     let past : length c.as_slice-fields.result.now ≤ c.in_ok-k.k = search rules in
-    subst (λ xs. Pays v (field_weight v a * fields_weight v (drop c.args.n xs)) c.args.tasks.now.items c.args.tasks.now.items c.args.search.now c.settle_from.new.search) c.as_slice-fields.ensures.value
+    subst (λ xs. Pays v (list_cost v a (drop c.args.n xs)) c.args.tasks.now.items c.args.tasks.now.items c.args.search.now c.settle_from.new.search) c.as_slice-fields.ensures.value
     (list_settled v a c.as_slice-fields.result.now c.args.n c.in_ok-k.k _ _ c.in_ok-k.ensures.counts past _)
 
 pub returns-clause-pays : goal.returns-clause-pays
@@ -63,6 +62,6 @@ returns-clause-pays g c =
     let k = c.in_ok-k.k in
     let fields = c.as_slice-fields.result.now in
     let less : k < length fields = search rules in
-    subst (λ xs. Pays v (field_weight v a * fields_weight v (drop c.args.n xs)) c.args.tasks.now.items c.begin_below.new.tasks.items c.args.search.now c.settle_from.new.search) c.as_slice-fields.ensures.value
+    subst (λ xs. Pays v (list_cost v a (drop c.args.n xs)) c.args.tasks.now.items c.begin_below.new.tasks.items c.args.search.now c.settle_from.new.search) c.as_slice-fields.ensures.value
     (list_open v a fields c.args.n k _ _ c.in_ok-k.ensures.counts less _ _ _
-    (subst (λ xs. CostsMore v (field_weight v a * fields_weight v (drop (k + 1) xs)) c.args.tasks.now.items c.wait.new.tasks.items) (sym c.as_slice-fields.ensures.value) (c.in_ok-wait.ensures.costs v)) c.in_ok-begin_below.ensures.costs)
+    (subst (λ xs. CostsMore v (list_cost v a (drop (k + 1) xs)) c.args.tasks.now.items c.wait.new.tasks.items) (sym c.as_slice-fields.ensures.value) (c.in_ok-wait.ensures.costs v)) c.in_ok-begin_below.ensures.costs)

@@ -1,16 +1,16 @@
-use Rattle.std.proofs.Common.{◌≡◌, ◌+◌, ◌*◌, ◌<◌, arith, drop, length, get_or, rules, slice_get, Some, subst, sym}
+use Rattle.std.proofs.Common.{◌≡◌, ◌+◌, ◌<◌, ◌≤◌, arith, drop, length, get_or, rules, slice_get, Some, subst, sym}
 use Rattle.merge_sets.proofs.OneName.{no_entry}
 use Rattle.std.proofs.lemmas.Option.{slice_get-get_or}
-use Rattle.std.proofs.lemmas.Nat.{mul-le}
 use Rattle.merge_search.specs.declared.task.Task.TheVariants.{Listed, Rows}
 use Rattle.merge_sets.specs.declared.node.Entry.{Entry}
 use Rattle.merge_certificates.specs.TwoSets.{rights_of}
 use Rattle.merge_sets.specs.World.{world}
 use Rattle.merge_search.specs.Tasks.{Meets, MeetsBoth}
-use Rattle.merge_search.specs.Weight.{field_weight, fields_weight}
-use Rattle.merge_search.proofs.Costs.{costs_pushed, rows_next}
-use Rattle.merge_search.proofs.Leading.{leads_done, leads_next, waits_pushed}
-use Rattle.merge_search.proofs.Steps.{both_end, both_next, others_whole}
+use Rattle.merge_search.specs.Spending.{list_cost, pair_cost, rows_cost}
+use Rattle.merge_search.specs.declared.state.Search.{Search}
+use Rattle.merge_search.proofs.Costs.{costs_pushed, credit_same, rows_next}
+use Rattle.merge_search.proofs.Leading.{leads_done, leads_next, leads_turn, waits_pushed}
+use Rattle.merge_search.proofs.Steps.{both_end, both_kept, both_next, others_whole}
 use Rattle.merge_search.proofs.fields.next_row.Goals as goal
 
 pub returns-then-k-left-clause-turns : goal.returns-then-k-left-clause-turns
@@ -34,13 +34,15 @@ returns-clause-turns g c =
     let less : k < length left = search rules in
     let a : Entry = get_or left k no_entry in
     let s = c.args.search.now in
-    leads_next v (Meets v (Listed a c.in_ok-others.others e 0)) (Meets v (Rows rows e (k + 1))) (Meets v (Rows rows e k)) _ _ _ _ s
+    let m : Search = c.ask_others.new.search in
+    leads_turn v (Meets v (Rows rows e k)) (Meets v (Rows rows e k)) _ _ m s _ (λ t d knows. both_kept v e rows.left.items rights k s m t c.in_ok-others.ensures.counts.keeps (d knows))
+    (leads_next v (Meets v (Listed a c.in_ok-others.others e 0)) (Meets v (Rows rows e (k + 1))) (Meets v (Rows rows e k)) _ _ _ _ m
     (λ t u one more knows.
     let at : slice_get rows.left.items k ≡ Some a = subst (λ xs. slice_get xs k ≡ Some a) is (slice_get-get_or left k no_entry less) in
-    let row = others_whole v e a rights c.in_ok-others.others.items s t (c.in_ok-others.ensures.others a knows at) one in
-    subst (λ xs. MeetsBoth v e xs rights k s u) is
-    (both_next v e left rights k s t u less row (subst (λ xs. MeetsBoth v e xs rights (k + 1) t u) (sym is) (more knows))))
-    (waits_pushed v (Rows rows e (k + 1)) _ _ c.in_ok-push.ensures.items) c.in_ok-next_listed.ensures.turns
+    let row = others_whole v e a rights c.in_ok-others.others.items m t (c.in_ok-others.ensures.others a knows at) one in
+    subst (λ xs. MeetsBoth v e xs rights k m u) is
+    (both_next v e left rights k m t u less row (subst (λ xs. MeetsBoth v e xs rights (k + 1) t u) (sym is) (more knows))))
+    (waits_pushed v (Rows rows e (k + 1)) _ _ c.in_ok-push.ensures.items) c.in_ok-next_listed.ensures.turns)
 
 pub returns-clause-pays : goal.returns-clause-pays
 returns-clause-pays g c =
@@ -53,7 +55,17 @@ returns-clause-pays g c =
     let is = c.as_slice-left.ensures.value in
     let less : k < length left = search rules in
     let a : Entry = get_or left k no_entry in
-    let one = mul-le (field_weight v a) (fields_weight v others) (field_weight v a) (fields_weight v rights) (omega arith) (c.in_ok-others.ensures.once (field_weight v)) in
-    let next = subst (λ xs. fields_weight v (drop k xs) * fields_weight v rights ≡ field_weight v a * fields_weight v rights + fields_weight v (drop (k + 1) xs) * fields_weight v rights) is
-    (rows_next v left rights k less) in
-    record { paid = omega (arith, one, next, (costs_pushed v (Rows rows c.args.e (k + 1)) _ _ c.in_ok-push.ensures.items).most, c.in_ok-next_listed.ensures.pays.paid) }
+    let counts = c.in_ok-others.ensures.counts in
+    let one : list_cost v a others ≤ list_cost v a rights = c.in_ok-others.ensures.once (pair_cost v a) in
+    let next = subst (λ xs. rows_cost v (drop k xs) rights ≡ length rights + list_cost v a rights + rows_cost v (drop (k + 1) xs) rights) is (rows_next v left rights k less) in
+    record {
+      paid = omega (
+        arith,
+        one,
+        next,
+        counts.judged,
+        credit_same v c.args.search.now c.ask_others.new.search counts.keeps.pairs counts.keeps.searched counts.keeps.repeated,
+        (costs_pushed v (Rows rows c.args.e (k + 1)) _ _ c.in_ok-push.ensures.items).most,
+        c.in_ok-next_listed.ensures.pays.paid,
+      );
+    }

@@ -1,10 +1,9 @@
-use Rattle.std.proofs.Common.{◌*◌, subst}
+use Rattle.std.proofs.Common.{subst}
 use Rattle.merge_search.specs.declared.task.Task.TheVariants.{Rows}
 use Rattle.merge_certificates.specs.TwoSets.{rights_of}
 use Rattle.merge_sets.specs.World.{world}
 use Rattle.merge_search.specs.Tasks.{Meets, MeetsBoth}
-use Rattle.merge_search.specs.Spending.{CostsMore}
-use Rattle.merge_search.specs.Weight.{fields_weight}
+use Rattle.merge_search.specs.Spending.{CostsMore, rows_cost}
 use Rattle.merge_search.proofs.Costs.{costs_pushed}
 use Rattle.merge_search.proofs.Leading.{leads_turn, waits_pushed}
 use Rattle.merge_search.proofs.fields.wait_wide.Goals as goal
@@ -26,5 +25,5 @@ returns-clause-costs g c =
     let told = c.in_ok-rows.ensures in
     let before = c.args.tasks.now.items in
     let after = c.push.new.self.items in
-    subst (λ ys. CostsMore v (fields_weight v c.args.left.now * fields_weight v ys) before after) told.right
-    (subst (λ xs. CostsMore v (fields_weight v xs * fields_weight v (rights_of rows)) before after) told.left (costs_pushed v (Rows rows c.args.e 0) before after c.in_ok-push.ensures.items))
+    subst (λ ys. CostsMore v (rows_cost v c.args.left.now ys) before after) told.right
+    (subst (λ xs. CostsMore v (rows_cost v xs (rights_of rows)) before after) told.left (costs_pushed v (Rows rows c.args.e 0) before after c.in_ok-push.ensures.items))

@@ -7,7 +7,7 @@ use Rattle.merge_search.proofs.Steps.{compares_kept}
 use Rattle.merge_search.specs.Settle.{Settles}
 use Rattle.merge_search.specs.declared.state.Search.{Search}
 use Rattle.merge_sets.specs.World.{world}
-use Rattle.merge_search.proofs.Costs.{fields_spend, spends_counts}
+use Rattle.merge_search.proofs.Costs.{fields_spend, settled_takes}
 use Rattle.merge_search.proofs.Settling.{kept_twice}
 use Rattle.merge_search.proofs.Leading.{all_done}
 use Rattle.merge_search.proofs.search.compare_fields.Goals as goal
@@ -21,7 +21,7 @@ returns-then-branch g c =
     record {
       done = z.done;
       real = z.real;
-      spends = spends_counts v (settle_cost v c.args.a c.args.b true) s u (subst (λ is. Compares (settle_cost v c.args.a c.args.b is) s u) c.if-branch.true c.in_ok-settle.ensures.counts);
+      takes = settled_takes v c.args.a c.args.b s u (subst (λ is. Compares (settle_cost v c.args.a c.args.b is) s u) c.if-branch.true c.in_ok-settle.ensures.counts);
     }
 
 pub begin_below-requires : goal.begin_below-requires
@@ -50,5 +50,5 @@ returns g c =
     record {
       done = whole.done;
       real = whole.real;
-      spends = fields_spend v a b _ _ s u t _ looked taken.keeps taken.counts taken.none c.in_ok-begin_below.ensures.costs c.in_ok-finish.ensures.spends;
+      takes = fields_spend v a b _ _ s u t _ looked taken.keeps taken.counts taken.none c.in_ok-begin_below.ensures.costs c.in_ok-finish.ensures.spends;
     }

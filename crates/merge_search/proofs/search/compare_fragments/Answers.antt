@@ -1,3 +1,4 @@
+use Rattle.std.proofs.Common.{arith}
 use Rattle.merge_search.specs.Work.{Pair}
 use Rattle.merge_search.specs.Reports.{AtFragments}
 use Rattle.merge_search.specs.Tasks.{MeetsFragments, Searches}
@@ -24,7 +25,7 @@ returns g c =
     record {
       done = whole.done;
       real = whole.real;
-      spends = begun_spends v 0 _ _ s t _ _ c.take_tasks-tasks.ensures.keeps c.take_tasks-tasks.ensures.counts c.take_tasks-tasks.ensures.none begun.pays c.in_ok-finish.ensures.spends;
+      spends = begun_spends v 0 0 _ _ s t _ _ c.take_tasks-tasks.ensures.keeps c.take_tasks-tasks.ensures.counts c.take_tasks-tasks.ensures.none (omega arith) begun.pays c.in_ok-finish.ensures.spends;
     }
 
 pub returns-then-is_full : goal.returns-then-is_full

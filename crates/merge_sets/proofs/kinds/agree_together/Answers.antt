@@ -1,7 +1,7 @@
 use Rattle.merge_sets.proofs.OneOfKind.{rows_all}
 use Rattle.merge_sets.proofs.kinds.agree_together.Goals as goal
 
-pub returns : goal.returns
-returns g c =
+pub returns-clause-agree : goal.returns-clause-agree
+returns-clause-agree g c =
     let j = g.J.Judge.judgement c.args.graph.now.judge in
-    rows_all j c.args.e c.args.fields.now c.args.fields.now c.in_ok-rows.rows c.in_ok-rows.ensures c.are_all_in.result c.are_all_in.ensures
+    rows_all j c.args.e c.args.fields.now c.args.fields.now c.in_ok-rows.rows c.in_ok-rows.ensures.rows c.are_all_in.result c.are_all_in.ensures

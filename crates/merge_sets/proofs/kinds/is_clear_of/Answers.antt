@@ -10,7 +10,7 @@ loop-other-preserved g c =
     All-more (λ o. j.conflict c.args.e c.args.field o ≡ false) c.args.others.now c.loop-other.other-index 0 c.loop-other-test.true c.loop-other.invariant
     (sym c.in_ok-are_in_conflict.ensures ∙ c.if-branch.false)
 
-pub returns : goal.returns
-returns g c =
+pub returns-clause-clear : goal.returns-clause-clear
+returns-clause-clear g c =
     let j = g.J.Judge.judgement c.args.graph.now.judge in
     subst (λ zs. All (λ o. j.conflict c.args.e c.args.field o ≡ false) zs) (take_all c.loop-other.other-index c.args.others.now c.loop-other-test.false) c.loop-other.invariant

@@ -1,4 +1,4 @@
-use Rattle.std.proofs.Common.{get_or, subst, sym, ap, ◌∙◌}
+use Rattle.std.proofs.Common.{arith, get_or, subst, sym, ap, ◌∙◌}
 use Rattle.std.specs.Bool.{OnTrue}
 use Rattle.bit_matrix.specs.Set.{has}
 use Rattle.bit_matrix.specs.declared.set.BitSet.{BitSet}
@@ -22,4 +22,5 @@ loop-k-preserved g c =
             (subst (λ b. OnTrue b (IsClearKind j kin c.args.e c.args.others.now (get_or left n no_entry).field)) w.if-branch.true c.in_ok-is_clear_kind.ensures.clear) c.loop-k.invariant.1 k a p h
         | else-branch w ↦ c.loop-k.invariant.1 k a p (ap (λ (r : BitSet). has r k) (sym w.rows-is) ∙ h)
       ],
+      omega (arith, c.loop-k.invariant.2, c.is_clear_kind.ensures.spent),
     )

@@ -1,4 +1,4 @@
-use Rattle.std.proofs.Common.{take, subst}
+use Rattle.std.proofs.Common.{arith, take, subst}
 use Rattle.std.specs.List.{All}
 use Rattle.std.proofs.lemmas.List.{take_all}
 use Rattle.std.proofs.lemmas.List.Elements.{All-more, All-weaker}
@@ -18,10 +18,11 @@ loop-first-preserved g c =
           (All-weaker (λ (f : Entry). IsToldOf j own c.loop-first.mixed f.response) (λ (f : Entry). IsToldOf j own c.mark_name.new.mixed f.response)
           (λ f h. told_more j own c.loop-first.mixed c.mark_name.new.mixed f.response c.in_ok-mark_name.ensures.kept h) (take c.loop-first.first-index fields) c.loop-first.invariant.1)
           c.in_ok-mark_name.ensures.told,
+      omega (arith, c.loop-first.invariant.2, c.mark_name.ensures.spent),
     )
 
-pub returns : goal.returns
-returns g c =
+pub returns-clause-told : goal.returns-clause-told
+returns-clause-told g c =
     let j = g.J.Judge.judgement c.args.graph.now.judge in
     let own = c.args.set.now.own.items in
     let fields = c.first_fields-first-items.result.now in

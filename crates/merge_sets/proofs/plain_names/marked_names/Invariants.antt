@@ -1,4 +1,4 @@
-use Rattle.std.proofs.Common.{◌≡◌, take}
+use Rattle.std.proofs.Common.{◌≡◌, ◌≤◌, take}
 use Rattle.std.specs.List.{All}
 use Rattle.merge_sets.specs.declared.node.Entry.{Entry}
 use Rattle.merge_sets.specs.Indexed.{firsts_of}
@@ -9,3 +9,4 @@ abbrev pub invariant-loop-first : goal.invariant-loop-first
 invariant-loop-first g l =
     (l.first-items ≡ firsts_of l.set.own.items l.set.index)
     × All (λ (f : Entry). IsToldOf (g.J.Judge.judgement l.graph.judge) l.set.own.items l.mixed f.response) (take l.first-index l.first-items)
+    × (l.budget ≤ l.fn.budget)

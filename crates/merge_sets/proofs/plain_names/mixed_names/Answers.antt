@@ -6,10 +6,10 @@ use Rattle.merge_sets.specs.Kinds.{IsToldOf}
 use Rattle.merge_sets.proofs.NamesSeen.{names_plain}
 use Rattle.merge_sets.proofs.plain_names.mixed_names.Goals as goal
 
-pub returns : goal.returns
-returns g c =
+pub returns-clause-names : goal.returns-clause-names
+returns-clause-names g c =
     let w = world g.J.Judge.judgement c.args.graph.now in
     let own = c.in_ok-fields.fields.items in
     let same = ap (λ v. v.items) c.in_ok-set.ensures.own in
-    let told = subst (λ xs. All (λ (a : Entry). IsToldOf w.judgement xs c.in_ok-mixed.mixed a.response) xs) same c.in_ok-mixed.ensures in
-    names_plain w c.in_ok-unlike.unlike c.in_ok-mixed.mixed own c.in_ok-unlike.ensures c.in_ok-fields.ensures told
+    let told = subst (λ xs. All (λ (a : Entry). IsToldOf w.judgement xs c.in_ok-mixed.mixed a.response) xs) same c.in_ok-mixed.ensures.told in
+    names_plain w c.in_ok-unlike.unlike c.in_ok-mixed.mixed own c.in_ok-unlike.ensures.names c.in_ok-fields.ensures told

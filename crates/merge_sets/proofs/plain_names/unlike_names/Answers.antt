@@ -12,17 +12,19 @@ pub loop-s-preserved : goal.loop-s-preserved
 loop-s-preserved g c =
     let w = world g.J.Judge.judgement c.args.graph.now in
     let alike = g.J.Judge.are_alike c.args.graph.now.judge in
-    let notes = c.in_ok-note_own.ensures in
-    below_more (λ i. (a : Entry) → Contains (own_of w i) a → IsNoted alike c.note_own.new.seen a) c.loop-s.s
-    (λ i l a p. notes.kept a (c.loop-s.invariant i l a p)) (λ a p. notes.noted a p)
+    let notes = c.in_ok-note_own.ensures.notes in (
+      below_more (λ i. (a : Entry) → Contains (own_of w i) a → IsNoted alike c.note_own.new.seen a) c.loop-s.s
+          (λ i l a p. notes.kept a (c.loop-s.invariant.0 i l a p)) (λ a p. notes.noted a p),
+      omega (arith, c.loop-s.invariant.1, c.note_own.ensures.spent),
+    )
 
-pub returns : goal.returns
-returns g c =
+pub returns-clause-names : goal.returns-clause-names
+returns-clause-names g c =
     let w = world g.J.Judge.judgement c.args.graph.now in
     let alike = g.J.Judge.are_alike c.args.graph.now.judge in
     let n = c.len-s-end.ensures in
     λ name clean. plain_name alike w (g.J.Judge.agree c.args.graph.now.judge) c.loop-s.seen
     (λ a p. elim (cases_lt p.0 c.loop-s.s) [
-      | inl l ↦ c.loop-s.invariant p.0 l a p.1
+      | inl l ↦ c.loop-s.invariant.0 p.0 l a p.1
       | inr past ↦ absurd (omega (arith, p.1.1, no_own w p.0 (omega (arith, past, n, c.loop-s-test.false))))
     ]) name clean

@@ -1,11 +1,11 @@
-use Rattle.std.proofs.Common.{◌*◌, arith, false}
-use Rattle.std.proofs.lemmas.Nat.{mul-le}
+use Rattle.std.proofs.Common.{◌*◌, ◌≤◌, arith, false}
 use Rattle.std.proofs.lemmas.Result.{on_ok_weaker}
 use Rattle.merge_sets.specs.World.{world}
 use Rattle.merge_search.proofs.Clearing.{others_done, others_told}
 use Rattle.merge_search.proofs.Work.{did_map}
+use Rattle.merge_search.specs.Spending.{list_cost, pair_cost}
 use Rattle.merge_search.specs.Weight.{field_weight, fields_weight}
-use Rattle.merge_tops.proofs.Spends.{spends_more}
+use Rattle.merge_tops.proofs.Spends.{list_few, takes_spend}
 use Rattle.merge_tops.proofs.pairs.compare_others.Goals as goal
 
 pub returns-clause-done : goal.returns-clause-done
@@ -23,7 +23,7 @@ returns-clause-real g c =
 pub returns-clause-spends : goal.returns-clause-spends
 returns-clause-spends g c =
     let v = world g.J.Judge.judgement c.args.graph.now in
-    let a = field_weight v c.args.a in
-    on_ok_weaker c.compare_rest.result
-    (spends_more v (a * fields_weight v c.args.others.now) (a * fields_weight v c.args.rest.now) _ _
-    (mul-le a (fields_weight v c.args.others.now) a (fields_weight v c.args.rest.now) (omega arith) (c.requires.once (field_weight v)))) c.compare_rest.ensures.spends
+    let a = c.args.a in
+    let rest = c.args.rest.now in
+    let within : list_cost v a c.args.others.now ≤ list_cost v a rest = c.requires.once (pair_cost v a) in
+    on_ok_weaker c.compare_rest.result (takes_spend v (list_cost v a c.args.others.now) (field_weight v a * fields_weight v rest) _ _ (omega (arith, within, list_few v a rest))) c.compare_rest.ensures.takes

@@ -1,4 +1,4 @@
-use Rattle.std.proofs.Common.{◌*◌, arith, refl, sym, subst, false}
+use Rattle.std.proofs.Common.{arith, refl, sym, subst, false}
 use Rattle.std.specs.List.{Contains}
 use Rattle.std.proofs.lemmas.List.Elements.{Contains-get_or}
 use Rattle.merge_sets.specs.World.{world}
@@ -7,9 +7,8 @@ use Rattle.merge_search.specs.Reports.{AtFields}
 use Rattle.merge_search.proofs.Adding.{all_full, all_start, all_more, all_done}
 use Rattle.merge_search.proofs.Work.{did_full, did_start, did_more, did_all}
 use Rattle.merge_sets.proofs.OneName.{no_entry}
-use Rattle.merge_search.specs.Weight.{field_weight}
-use Rattle.merge_search.proofs.Costs.{spends_none}
-use Rattle.merge_tops.proofs.Spends.{spends_list, spends_next, spends_start, times_left}
+use Rattle.merge_search.specs.Spending.{pair_cost}
+use Rattle.merge_tops.proofs.Spends.{takes_list, takes_next, takes_none, takes_start}
 use Rattle.merge_tops.proofs.pairs.compare_rest.Goals as goal
 
 pub loop-b-init : goal.loop-b-init
@@ -17,7 +16,7 @@ loop-b-init g c =
     let v = world g.J.Judge.judgement c.args.graph.now in (
       did_start v (λ b M. Done v M false c.args.a b) c.args.rest.now c.args.search.now,
       all_start v false _ (λ b. AtFields c.args.a b) c.args.rest.now no_entry _,
-      spends_start v (λ b. field_weight v c.args.a * field_weight v b) c.args.rest.now no_entry c.args.search.now,
+      takes_start v (pair_cost v c.args.a) c.args.rest.now no_entry 0 _ _ (takes_none v 0 c.args.search.now),
     )
 
 pub loop-b-preserved : goal.loop-b-preserved
@@ -26,7 +25,7 @@ loop-b-preserved g c =
       did_more v (λ b M. Done v M false c.args.a b) c.args.rest.now c.loop-b.b-index no_entry c.loop-b-test.true c.loop-b.invariant.0 c.in_ok-compare_fields.ensures.done,
       all_more v false _ _ (λ b. AtFields c.args.a b) c.args.rest.now c.loop-b.b-index no_entry
           (λ r z. (z.0, subst (λ x. Contains c.args.rest.now x) (sym z.1) (Contains-get_or c.args.rest.now c.loop-b.b-index no_entry c.loop-b-test.true))) c.loop-b.invariant.1 c.in_ok-compare_fields.ensures.real,
-      spends_next v (λ b. field_weight v c.args.a * field_weight v b) c.args.rest.now no_entry c.loop-b.b-index _ _ _ c.loop-b-test.true c.loop-b.invariant.2 c.in_ok-compare_fields.ensures.spends,
+      takes_next v (pair_cost v c.args.a) c.args.rest.now no_entry 0 c.loop-b.b-index _ _ _ c.loop-b-test.true c.loop-b.invariant.2 c.in_ok-compare_fields.ensures.takes,
     )
 
 pub returns : goal.returns
@@ -35,12 +34,11 @@ returns g c =
     record {
       done = did_all v (λ b M. Done v M false c.args.a b) c.args.rest.now c.args.rest.now c.loop-b.b-index c.loop-b-test.false refl c.loop-b.invariant.0;
       real = all_done v false _ _ (λ b. AtFields c.args.a b) c.args.rest.now c.loop-b.b-index no_entry c.loop-b-test.false (λ r z. (r.right, z.1, (z.0, refl))) c.loop-b.invariant.1;
-      spends = spends_list v (λ b. field_weight v c.args.a * field_weight v b) c.args.rest.now no_entry c.loop-b.b-index _ _ _ c.loop-b-test.false
-          (omega (arith, times_left (field_weight v) (field_weight v c.args.a) c.args.rest.now)) c.loop-b.invariant.2;
+      takes = takes_list v (pair_cost v c.args.a) c.args.rest.now no_entry 0 c.loop-b.b-index _ _ _ c.loop-b-test.false (omega arith) c.loop-b.invariant.2;
     }
 
 pub returns-then-is_full : goal.returns-then-is_full
 returns-then-is_full g c =
     let v = world g.J.Judge.judgement c.args.graph.now in
     let full = c.if-is_full.ensures in
-    record { done = did_full v _ c.args.search.now full; real = all_full v false _ _ _ full; spends = spends_none v _ c.args.search.now }
+    record { done = did_full v _ c.args.search.now full; real = all_full v false _ _ _ full; takes = takes_none v _ c.args.search.now }

@@ -1,7 +1,7 @@
-use Rattle.std.proofs.Common.{◌≤◌, ◌-◌, ◌*◌, ◌^◌, ◌<◌, [], ℕ, length, get_or, sym, subst, arith, false}
+use Rattle.std.proofs.Common.{◌≤◌, ◌+◌, ◌-◌, ◌*◌, ◌^◌, ◌<◌, ◌∙◌, [], ℕ, ap, length, get_or, min, sym, subst, arith, false}
 use Rattle.std.proofs.lemmas.List.Elements.{Contains-get_or}
 use Rattle.merge_sets.specs.World.{HasRoom, world}
-use Rattle.merge_search.specs.Counts.{all_spreads}
+use Rattle.merge_search.specs.Counts.{all_spreads, greatest}
 use Rattle.merge_search.specs.Reports.{AddsAll, AtSearched, Judged}
 use Rattle.merge_tops.specs.Tops.{AtTop, Together}
 use Rattle.merge_search.proofs.Adding.{Upto, all_start, all_more}
@@ -42,27 +42,37 @@ pub returns : goal.returns
 returns g c =
     let v = world g.J.Judge.judgement c.args.graph.now in
     let s = c.loop-s.search in
+    let t = c.count_fields.new.search in
     let m = c.add_counts.new.search in
     let inner = c.args.graph.now.inner.items in
     let order = c.order-s-items.result.now in
     let n : length v.fragments < 2 ^ 63 = omega (arith, c.args.graph.now.fragments.ok.0, c.args.graph.now.fragments.ok.1, c.args.graph.now.fragments.small) in
+    let keeps = c.count_fields.ensures.keeps in
     let added = c.add_counts.ensures in
+    let found = ap (λ f. f.items) added.found ∙ keeps.found in
+    let compared = added.compared ∙ keeps.compared in
+    let lists = added.lists ∙ ap (λ (k : ℕ). min (k + c.loop-s.counts.lists) greatest) keeps.lists in
+    let opened = added.opened ∙ ap (λ (k : ℕ). min (k + c.loop-s.counts.opened) greatest) keeps.opened in
+    let looked = added.looked ∙ ap (λ (k : ℕ). min (k + c.loop-s.counts.looked) greatest) keeps.looked in
     let none = c.no_counts-counts.ensures in
     let tops = opens_list v (set_lists inner) order 0 c.loop-s.s-index (top_lists inner order) _ _ c.loop-s-test.false (omega arith) c.loop-s.invariant.5 in
     record {
-      judged = subst (λ f. Judged v c.args.graph.now.order.items f.items) (sym added.found)
+      judged = subst (λ zs. Judged v c.args.graph.now.order.items zs) (sym found)
           (judged_at v s c.args.graph.now.order.items order c.loop-s.s-index c.loop-s.invariant.0 c.loop-s-test.false c.args.graph.now.falling c.args.graph.now.listed c.loop-s.invariant.1 c.loop-s.invariant.2);
-      few = subst (λ (k : ℕ). k ≤ length v.fragments * (length v.fragments - 1)) (sym added.compared) (at_most v s c.loop-s.invariant.3);
-      enough = λ room ps h. subst (λ (k : ℕ). length ps ≤ k) (sym added.compared)
-          (at_least v s order (all_tops v s order c.loop-s.s-index c.loop-s-test.false (c.loop-s.invariant.1 s (grows_same s) (subst (λ f. HasRoom v f.items) added.found room)).1)
+      few = subst (λ (k : ℕ). k ≤ length v.fragments * (length v.fragments - 1)) (sym compared) (at_most v s c.loop-s.invariant.3);
+      enough = λ room ps h. subst (λ (k : ℕ). length ps ≤ k) (sym compared)
+          (at_least v s order (all_tops v s order c.loop-s.s-index c.loop-s-test.false (c.loop-s.invariant.1 s (grows_same s) (subst (λ zs. HasRoom v zs) found room)).1)
           c.loop-s.invariant.3 (small_square (length v.fragments) n) ps (subst (λ zs. Together v zs ps) (sym c.loop-s.invariant.0) h));
-      opened = opened_by_lists v inner order _ _ s m none.lists none.opened none.looked tops c.loop-s.invariant.3 added.lists added.opened added.looked;
+      opened = opened_by_lists v inner order _ _ s m none.lists none.opened none.looked tops c.loop-s.invariant.3 lists opened looked;
       linear = subst (λ zs. m.opened ≤ length v.fragments * most_openings v inner zs) c.loop-s.invariant.0
-          (opened_linear v inner order _ _ s m none.lists none.opened none.looked tops c.loop-s.invariant.3 added.lists added.opened added.looked);
+          (opened_linear v inner order _ _ s m none.lists none.opened none.looked tops c.loop-s.invariant.3 lists opened looked);
       looked = subst (λ zs. m.looked ≤ all_spreads v * most_openings v inner zs) c.loop-s.invariant.0
-          (looked_linear v inner order _ _ s m none.lists none.opened none.looked tops c.loop-s.invariant.3 added.lists added.opened added.looked);
-      compares = subst (λ (k : ℕ). k ≤ 4 * search_cost v inner c.args.graph.now.order.items) (sym added.judged)
-          (subst (λ zs. s.judged ≤ 4 * search_cost v inner zs) c.loop-s.invariant.0
-          (all_compared v inner order c.no_search-search.result s c.no_search-search.ensures.judged
-          (spends_list v (set_cost v inner) order 0 c.loop-s.s-index _ _ _ c.loop-s-test.false (omega arith) c.loop-s.invariant.4)));
+          (looked_linear v inner order _ _ s m none.lists none.opened none.looked tops c.loop-s.invariant.3 lists opened looked);
+      compares = subst (λ zs. m.judged ≤ 8 * search_cost v inner zs) c.loop-s.invariant.0 (omega (
+        arith,
+        added.judged,
+        c.count_fields.ensures.judged,
+        all_compared v inner order c.in_ok-plain.asked c.no_search-search.result s c.no_search-search.ensures.judged
+            (spends_list v (set_cost v inner) order 0 c.loop-s.s-index _ _ _ c.loop-s-test.false (omega arith) c.loop-s.invariant.4) c.in_ok-plain.ensures.counts,
+      ));
     }

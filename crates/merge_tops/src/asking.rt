@@ -1,0 +1,235 @@
+//! What is known of the fields of a set without comparing each two, and what it takes to know it: that is counted as
+//! comparing fields is.
+ghost use Rattle.std.specs.Prelude.{◌≡◌, ◌≤◌, ◌*◌, ◌∷◌, [], IfOk, OnOk, false, length};
+ghost use Rattle.std.specs.Bool.{OnTrue};
+ghost use Rattle.merge_certificates.specs.Below.{IsIndexed, KnowsBelow};
+ghost use Rattle.merge_certificates.specs.Failing.{StandFor};
+ghost use Rattle.merge_certificates.specs.Quiet.{AreQuiet};
+ghost use Rattle.merge_search.specs.Spending.{AsksUpto};
+ghost use Rattle.merge_sets.specs.Clear.{AreClear};
+ghost use Rattle.merge_sets.specs.Kinds.{AreAgreeingRows};
+ghost use Rattle.merge_sets.specs.Plain.{ArePlain};
+ghost use Rattle.merge_sets.specs.World.{world};
+ghost use Rattle.merge_tops.specs.TopCosts.{own_count, set_questions};
+
+use bit_matrix::set::BitSet;
+use merge_certificates::below::{Below, known_below};
+use merge_certificates::clear::MANY;
+use merge_certificates::failing::{Numbered, numbered_kinds};
+use merge_certificates::quiet::are_quiet;
+use merge_certificates::unions::Union;
+use merge_search::passing::ask_clear;
+use merge_search::state::{Search, count_fields};
+use merge_sets::graph::Graph;
+use merge_sets::judge::Judge;
+use merge_sets::kinds::agreeing_rows;
+use merge_sets::node::Entry;
+use merge_sets::plain::{are_plain_below, passed_over};
+use merge_sets::view::{agree_plainly, own, spreads};
+use std::alloc::{AllocError, Global};
+
+// Each field has so many questions for each of them.
+const EACH: usize = 64;
+
+/// The square of the number of some fields.
+pub(crate) fn square(fields: &[Entry]) -> usize
+    ensures { result ≤ length fields.now * length fields.now }
+{
+    fields.len().saturating_mul(fields.len())
+}
+
+// Whether it is plain that there is nothing to find between some fields. Two that have nothing below are compared at
+// once.
+fn are_passed<J: Judge>(
+    graph: &Graph<J>,
+    fields: &[Entry],
+    plain: &BitSet,
+    budget: &mut usize,
+) -> bool
+    requires { ArePlain (world J.judgement graph.now) plain.now }
+    ensures clear { OnTrue result (AreClear (world J.judgement graph.now) false fields.now fields.now) }
+    ensures spent { budget.new ≤ budget.old }
+{
+    let is_wide = fields.len() > 2 || fields.iter().any(|a| a.below.is_some());
+    if !is_wide || !are_plain_below(graph, fields, plain) {
+        return false;
+    }
+    agree_plainly(graph, fields, fields, budget)
+}
+
+/// The same, counted.
+pub(crate) fn ask_passed<J: Judge>(
+    graph: &Graph<J>,
+    fields: &[Entry],
+    plain: &BitSet,
+    search: &mut Search,
+) -> bool
+    requires { ArePlain (world J.judgement graph.now) plain.now }
+    ensures clear { OnTrue result (AreClear (world J.judgement graph.now) false fields.now fields.now) }
+    ensures counts { AsksUpto (2 * length fields.now) search.old search.new }
+{
+    let most = fields.len().saturating_mul(2);
+    let mut budget = most;
+    let is_passed = are_passed(graph, fields, plain, &mut budget);
+    count_fields(search, most - budget);
+    is_passed
+}
+
+/// The places of fields that are known to fail with none of these, by their kinds.
+///
+/// # Errors
+///
+/// Out of memory.
+pub(crate) fn ask_agreeing<J: Judge>(
+    graph: &Graph<J>,
+    fields: &[Entry],
+    search: &mut Search,
+) -> Result<BitSet, AllocError>
+    ensures rows { IfOk result (AreAgreeingRows (J.judgement graph.now.judge) false fields.now fields.now) }
+    ensures counts { OnOk result (AsksUpto (length fields.now * length fields.now) search.old search.new) }
+{
+    let most = square(fields);
+    let mut budget = most;
+    let rows = agreeing_rows(search.alloc, graph, false, fields, fields, &mut budget)?;
+    count_fields(search, most - budget);
+    Ok(rows)
+}
+
+/// What is known of what stands below some fields. As long as all are compared with each other, half of it is for this.
+///
+/// # Errors
+///
+/// Out of memory.
+pub(crate) fn ask_below<J: Judge>(
+    graph: &Graph<J>,
+    fields: &[Entry],
+    search: &mut Search,
+) -> Result<Below, AllocError>
+    ensures knows { IfOk result (KnowsBelow (world J.judgement graph.now) false fields.now) }
+    ensures indexed { IfOk result (λ below. IsIndexed below (length fields.now)) }
+    ensures counts { OnOk result (AsksUpto (length fields.now * length fields.now) search.old search.new) }
+{
+    let most = square(fields) / 2;
+    let mut budget = most;
+    let below = known_below(search.alloc, graph, false, fields, &mut budget)?;
+    count_fields(search, most - budget);
+    Ok(below)
+}
+
+/// The kinds of some fields by number.
+///
+/// # Errors
+///
+/// Out of memory.
+pub(crate) fn ask_kinds<J: Judge>(
+    graph: &Graph<J>,
+    fields: &[Entry],
+    listed: &BitSet,
+    search: &mut Search,
+) -> Result<Numbered, AllocError>
+    ensures stand { IfOk result (λ n.
+        StandFor (J.judgement graph.now.judge) n.kinds.items fields.now n.numbers.items) }
+    ensures counts { OnOk result (AsksUpto (length fields.now * length fields.now) search.old search.new) }
+{
+    let most = square(fields);
+    let mut budget = most;
+    let kinds = numbered_kinds(search.alloc, graph, fields, listed, &mut budget)?;
+    count_fields(search, most - budget);
+    Ok(kinds)
+}
+
+/// Whether it is known of two fields and more that each merges with each of some others. `false` says nothing.
+///
+/// # Errors
+///
+/// Out of memory.
+pub(crate) fn ask_groups<J: Judge>(
+    graph: &Graph<J>,
+    left: &[Entry],
+    right: &[Entry],
+    search: &mut Search,
+) -> Result<bool, AllocError>
+    ensures { OnOk result (AsksUpto (2 * (length left.now * length right.now)) search.old search.new) }
+{
+    if left.len() < 2 {
+        return Ok(false);
+    }
+    let is_clear = ask_clear(graph, left, right, false, search)?;
+    Ok(is_clear)
+}
+
+// Whether all that stands in a set is known to merge. It takes no longer than comparing its spreads with all that it
+// has would; where these pairs are few, `false` says nothing.
+fn is_merged<J: Judge>(
+    alloc: Global,
+    graph: &Graph<J>,
+    s: usize,
+    budget: &mut usize,
+) -> Result<bool, AllocError>
+    ensures merged { IfOk result (λ b. OnTrue b (AreQuiet (world J.judgement graph.now) false (s ∷ []))) }
+    ensures spent { budget.new ≤ budget.old }
+{
+    if *budget < MANY {
+        return Ok(false);
+    }
+    let mut sets = Vec::new(alloc);
+    sets.push(s)?;
+    let mut unions = Vec::new(alloc);
+    unions.push(Union { sets, flag: false })?;
+    let is_quiet = are_quiet(alloc, graph, unions, false, budget)?;
+    Ok(is_quiet)
+}
+
+/// The same, counted.
+///
+/// # Errors
+///
+/// Out of memory.
+pub(crate) fn ask_merged<J: Judge>(
+    graph: &Graph<J>,
+    s: usize,
+    search: &mut Search,
+) -> Result<bool, AllocError>
+    ensures merged { IfOk result (λ b. OnTrue b (AreQuiet (world J.judgement graph.now) false (s ∷ []))) }
+    ensures counts { OnOk result
+        (AsksUpto (2 * set_questions (world J.judgement graph.now) s) search.old search.new) }
+{
+    let list = spreads(graph, s).len();
+    let fields = own(graph, s).len();
+    let most = list
+        .saturating_mul(list.saturating_add(fields))
+        .saturating_mul(2);
+    let mut budget = most;
+    let is_merged = is_merged(search.alloc, graph, s, &mut budget)?;
+    count_fields(search, most - budget);
+    Ok(is_merged)
+}
+
+// How many own fields all sets have.
+fn count_own<J: Judge>(graph: &Graph<J>) -> usize
+    ensures { result ≤ own_count (world J.judgement graph.now) }
+{
+    let mut count: usize = 0;
+    for s in 0..graph.sets.len() {
+        count = count.saturating_add(own(graph, s).len());
+    }
+    count
+}
+
+/// The sets that are plain, and how much was asked to know it.
+///
+/// # Errors
+///
+/// Out of memory.
+pub(crate) fn ask_plain<J: Judge>(
+    alloc: Global,
+    graph: &Graph<J>,
+) -> Result<(BitSet, usize), AllocError>
+    ensures plain { IfOk result (λ p. ArePlain (world J.judgement graph.now) p.0) }
+    ensures counts { IfOk result (λ p. p.1 ≤ 64 * own_count (world J.judgement graph.now)) }
+{
+    let most = count_own(graph).saturating_mul(EACH);
+    let mut budget = most;
+    let plain = passed_over(alloc, graph, &mut budget)?;
+    Ok((plain, most - budget))
+}
