@@ -1,10 +1,11 @@
+pub mod Comparing
+pub mod Counting
 pub mod Fields
+pub mod Finding
+pub mod Once
+pub mod Opening
+pub mod Searching
 pub mod Sets
+pub mod Sums
 pub mod Transfer
 pub mod Trees
-pub mod Finding
-pub mod Counting
-pub mod Sums
-pub mod Comparing
-pub mod Searching
-pub mod Opening

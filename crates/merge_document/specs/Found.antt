@@ -16,10 +16,11 @@ use Rattle.merge_document.specs.Conflicts.{AreReal, AreTold, AreAll, IsTidyDocum
 use Rattle.merge_document.specs.Merging.{DocumentMerges}
 use Rattle.merge_document.specs.declared.search.FoundConflicts.{FoundConflicts}
 
--- The most pairs of fields that a search compares one by one: by the selections of the document, at any depth, and the
--- sum of their depths.
+-- The most pairs of fields that a search compares, what it asks of many at once among them: by the selections of the
+-- document, at any depth, and the sum of their depths.
 abbrev pub most_compared : {S : Type 0} → List (Definition S) → ℕ
-most_compared document = 24 * (selection_count document * document_depths document) + 250000
+most_compared document =
+    48 * (selection_count document * document_depths document) + 64 * document_depths document + 500000
 
 -- How often one fragment is opened at most: by the selections of the document, at any depth, and its definitions.
 abbrev pub most_opened : {S : Type 0} → List (Definition S) → ℕ

@@ -38,7 +38,7 @@ pub struct Search {
     pub looked: u128,
     /// How many searches there were.
     pub lists: u128,
-    /// How many pairs of fields were compared one by one.
+    /// How many pairs of fields were compared, what was asked and looked at to pass many at once counted with them.
     pub judged: u128,
     /// Openings of searches that ended, whose room is used again.
     pub openings: Vec<Opening>,
@@ -174,7 +174,7 @@ pub fn report(search: &mut Search, finding: Finding) -> Result<(), AllocError>
     Ok(())
 }
 
-/// Counts pairs of fields that are compared.
+/// Counts pairs of fields that are compared, or what is asked and looked at to pass many at once.
 pub fn count_fields(search: &mut Search, pairs: usize)
     ensures { CountsFields pairs search.old search.new }
 {

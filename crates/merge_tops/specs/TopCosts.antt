@@ -36,7 +36,7 @@ set_questions w s = length (spreads_of w s) * (length (spreads_of w s) + length 
 
 -- All that is asked of a set.
 abbrev pub set_cost : World → List InnerSet → ℕ → ℕ
-set_cost w inner s = top_cost w (weight w s) + inner_cost w inner s + set_questions w s
+set_cost w inner s = top_cost w (weight w s) + set_questions w s + inner_cost w inner s
 
 -- The own fields of all sets.
 abbrev pub own_count : World → ℕ
