@@ -1,5 +1,5 @@
 //! Fields between which a search finds nothing, known of many at once.
-ghost use Rattle.std.specs.Prelude.{◌≡◌, ◌≤◌, ◌⊎◌, ℕ, IfOk, None, Some, slice_get, true};
+ghost use Rattle.std.specs.Prelude.{◌≡◌, ◌<◌, ◌≤◌, ◌⊎◌, ℕ, IfOk, None, Some, length, slice_get, true};
 ghost use Rattle.std.specs.Bool.{OnTrue};
 ghost use Rattle.bit_matrix.specs.Set.{has};
 ghost use Rattle.merge_sets.specs.Judgement.{NoneConflict};
@@ -108,6 +108,7 @@ fn are_agreeing<J: Judge>(
 ) -> Result<bool, AllocError>
     ensures agree { IfOk result (λ b. OnTrue b (NoneConflict (J.judgement graph.now.judge) e left.now right.now)) }
     ensures spent { budget.new ≤ budget.old }
+    ensures ticks { IfOk result (λ b. OnTrue b (0 < length left.now → budget.new < budget.old)) }
 {
     if agree_plainly(graph, left, right, budget) {
         return Ok(true);
@@ -131,6 +132,7 @@ pub fn are_clear<J: Judge>(
 ) -> Result<bool, AllocError>
     ensures clear { IfOk result (λ b. OnTrue b (AreClear (world J.judgement graph.now) e left.now right.now)) }
     ensures spent { budget.new ≤ budget.old }
+    ensures ticks { IfOk result (λ b. OnTrue b (0 < length left.now → budget.new < budget.old)) }
 {
     if !are_agreeing(alloc, graph, e, left, right, budget)? {
         return Ok(false);

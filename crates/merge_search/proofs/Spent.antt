@@ -10,7 +10,7 @@ use Rattle.merge_search.specs.declared.state.Search.{Search}
 use Rattle.merge_sets.specs.Graph.{Falling}
 use Rattle.merge_search.specs.State.{CountsFields}
 use Rattle.merge_search.specs.Spending.{Compares, ComparesUpto, LooksFlatly, list_cost, open_cost, pair_cost, settle_cost}
-use Rattle.merge_search.specs.Weight.{below_weight, field_weight, fields_weight, weight}
+use Rattle.merge_search.specs.Weight.{below_weight, weight}
 use Rattle.merge_sets.specs.World.{World, own_of}
 use Rattle.merge_search.proofs.Weights.{length_weight, own_weight}
 use Rattle.merge_sets.proofs.OneName.{no_entry}

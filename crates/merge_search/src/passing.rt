@@ -1,8 +1,8 @@
 //! What is known to merge without a search, and what it takes to know it: that is counted as comparing fields is.
-ghost use Rattle.std.specs.Prelude.{◌≡◌, ◌*◌, ◌≤◌, IfOk, OnOk, Some, length, slice_get};
+ghost use Rattle.std.specs.Prelude.{◌≡◌, ◌*◌, ◌<◌, ◌≤◌, IfOk, OnOk, Some, length, slice_get};
 ghost use Rattle.std.specs.Bool.{OnTrue};
 ghost use Rattle.merge_certificates.specs.TwoSets.{KnowsRows, rights_of};
-ghost use Rattle.merge_search.specs.Spending.{AsksUpto};
+ghost use Rattle.merge_search.specs.Spending.{AsksUpto, CountsAtLeast};
 ghost use Rattle.merge_sets.specs.Clear.{AreClear, AreClearRows, AreOthers, IsSumWithin};
 ghost use Rattle.merge_sets.specs.World.{world};
 ghost use Rattle.merge_sets.specs.declared.node.Entry.{Entry};
@@ -37,6 +37,7 @@ pub fn ask_clear<J: Judge>(
 ) -> Result<bool, AllocError>
     ensures clear { IfOk result (λ b. OnTrue b (AreClear (world J.judgement graph.now) e left.now right.now)) }
     ensures counts { OnOk result (AsksUpto (2 * (length left.now * length right.now)) search.old search.new) }
+    ensures ticks { IfOk result (λ b. OnTrue b (0 < length left.now → CountsAtLeast 1 search.old search.new)) }
 {
     let most = twice_pairs(left, right);
     let mut budget = most;

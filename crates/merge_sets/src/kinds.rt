@@ -165,6 +165,7 @@ fn is_clear_kind<J: Judge>(
     ensures clear { IfOk result (λ b. OnTrue b
         (IsClearKind (J.judgement graph.now.judge) (J.are_kin graph.now.judge) e others.now field)) }
     ensures spent { budget.new ≤ budget.old }
+    ensures ticks { IfOk result (λ b. OnTrue b (budget.new < budget.old)) }
 {
     if let Some(kind) = kind_of(graph, kinds.as_slice(), field, budget) {
         return Ok(kind.is_clear);
@@ -192,6 +193,7 @@ fn rows_of<J: Judge>(
     ensures rows { IfOk result (λ rows. (k : ℕ) (a : Entry) → slice_get left.now k ≡ Some a → has rows k ≡ true
         → IsClearKind (J.judgement graph.now.judge) (J.are_kin graph.now.judge) e others.now a.field) }
     ensures spent { budget.new ≤ budget.old }
+    ensures ticks { IfOk result (λ rows. (k : ℕ) → has rows k ≡ true → budget.new < budget.old) }
 {
     let mut rows = BitSet::new(alloc);
     let mut kinds = Vec::new(alloc);
@@ -215,6 +217,7 @@ fn rows_by_kinds<J: Judge>(
 ) -> Result<BitSet, AllocError>
     ensures rows { IfOk result (AreAgreeingRows (J.judgement graph.now.judge) e left.now right.now) }
     ensures spent { budget.new ≤ budget.old }
+    ensures ticks { IfOk result (λ rows. (k : ℕ) → has rows k ≡ true → budget.new < budget.old) }
 {
     let Some(others) = kinds_of(alloc, graph, right, most, budget)? else {
         return Ok(BitSet::new(alloc));
@@ -241,6 +244,7 @@ pub fn agreeing_rows<J: Judge>(
 ) -> Result<BitSet, AllocError>
     ensures rows { IfOk result (AreAgreeingRows (J.judgement graph.now.judge) e left.now right.now) }
     ensures spent { budget.new ≤ budget.old }
+    ensures ticks { IfOk result (λ rows. (k : ℕ) → has rows k ≡ true → budget.new < budget.old) }
 {
     if left.len() < FEW || right.len() < FEW {
         return Ok(BitSet::new(alloc));
@@ -283,6 +287,7 @@ pub fn agree_by_kinds<J: Judge>(
 ) -> Result<bool, AllocError>
     ensures agree { IfOk result (λ b. OnTrue b (NoneConflict (J.judgement graph.now.judge) e left.now right.now)) }
     ensures spent { budget.new ≤ budget.old }
+    ensures ticks { IfOk result (λ b. OnTrue b (0 < length left.now → budget.new < budget.old)) }
 {
     let rows = agreeing_rows(alloc, graph, e, left, right, budget)?;
     Ok(are_all_in(&rows, left.len()))

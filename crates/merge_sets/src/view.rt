@@ -1,5 +1,5 @@
 //! What a search reads of a graph.
-ghost use Rattle.std.specs.Prelude.{◌≡◌, ◌≤◌, Bool, IfOk, false, length};
+ghost use Rattle.std.specs.Prelude.{◌≡◌, ◌<◌, ◌≤◌, Bool, IfOk, false, length};
 ghost use Rattle.merge_sets.specs.Names.{named, AreListed, HaveOwnNames};
 ghost use Rattle.std.specs.Bool.{OnTrue};
 ghost use Rattle.std.specs.List.{All};
@@ -118,6 +118,7 @@ pub fn agree_plainly<J: Judge>(
 ) -> bool
     ensures agree { OnTrue result ((e : Bool) → NoneConflict (J.judgement graph.now.judge) e left.now right.now) }
     ensures spent { budget.new ≤ budget.old }
+    ensures ticks { OnTrue result (0 < length left.now → budget.new < budget.old) }
 {
     match left.first() {
         Some(first) => {

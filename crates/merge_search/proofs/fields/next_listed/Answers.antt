@@ -1,4 +1,4 @@
-use Rattle.std.proofs.Common.{◌+◌, ◌*◌, ◌<◌, ◌≤◌, drop, length, arith, get_or, rules, subst, sym}
+use Rattle.std.proofs.Common.{◌+◌, ◌<◌, ◌≤◌, drop, length, arith, get_or, rules, subst, sym}
 use Rattle.merge_sets.proofs.OneName.{no_entry}
 use Rattle.std.proofs.lemmas.Option.{slice_get-get_or}
 use Rattle.merge_search.specs.declared.task.Task.TheVariants.{Listed}

@@ -1,4 +1,4 @@
-use Rattle.std.proofs.Common.{subst, true}
+use Rattle.std.proofs.Common.{subst}
 use Rattle.merge_search.specs.Work.{Done}
 use Rattle.merge_search.specs.Reports.{AtFields}
 use Rattle.merge_search.specs.Spending.{Compares, settle_cost}

@@ -1,4 +1,4 @@
-use Rattle.std.proofs.Common.{arith, get_or, subst, sym, ap, ◌∙◌}
+use Rattle.std.proofs.Common.{◌<◌, arith, get_or, subst, sym, ap, ◌∙◌}
 use Rattle.std.specs.Bool.{OnTrue}
 use Rattle.bit_matrix.specs.Set.{has}
 use Rattle.bit_matrix.specs.declared.set.BitSet.{BitSet}
@@ -23,4 +23,10 @@ loop-k-preserved g c =
         | else-branch w ↦ c.loop-k.invariant.1 k a p (ap (λ (r : BitSet). has r k) (sym w.rows-is) ∙ h)
       ],
       omega (arith, c.loop-k.invariant.2, c.is_clear_kind.ensures.spent),
+      λ m h. elim c.if-branch.branch [
+        | then-branch+in_ok-insert w ↦
+            (let asked = subst (λ b. OnTrue b (c.is_clear_kind.new.budget < c.loop-k.budget)) w.if-branch.true c.in_ok-is_clear_kind.ensures.ticks in
+            omega (arith, asked, c.loop-k.invariant.2))
+        | else-branch w ↦ omega (arith, c.loop-k.invariant.3 m (ap (λ (r : BitSet). has r m) (sym w.rows-is) ∙ h), c.is_clear_kind.ensures.spent)
+      ],
     )
