@@ -24,7 +24,8 @@ error_value c = record { locations = c.places; message = c.message }
 -- compared. If they form no cycle, and no field repeats an argument or a key in one, what two fields of one set have
 -- between them is told; and no conflict is missed if the conditions of inline fragments are known, too. At most n (n -
 -- 1) pairs of n definitions of fragments were compared, and at least those that some set spreads both of. No search
--- opened more than n; all together they opened few, and looked at few spreads. And few fields were compared one by one.
+-- opened more than n; all together they opened few, and looked at few spreads. And few fields were compared, or asked
+-- about to pass many at once.
 pub record MergeErrors {S C : Type 0} (E : S → S → Bool) (schema : Catalog S C) (document : List (Definition S))
     (end : OverlappingFieldsCanBeMerged) (es : List ErrorValue) : Type 0 where
   pub reports : Reports (PlainEntry S C)

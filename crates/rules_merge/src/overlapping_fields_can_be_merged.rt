@@ -36,7 +36,8 @@ use walk::{Event, Fresh, Machine, Rule, ValidatorContext, Visitor};
 /// Let the document have `s` selections, at any depth, and `m` definitions of any kind. Let `d` be the sum of the depths
 /// of its selections; those of a definition are at depth 1. Where the type conditions of inline fragments are known:
 ///
-/// - at most `24 s d + 250,000` pairs of fields are compared one by one;
+/// - at most `48 s d + 64 d + 500,000` pairs of fields are compared, what is asked and looked at to pass many at once
+///   counted with them;
 /// - each fragment is opened at most `8 s + 4 m + 100` times;
 /// - at most `s (8 s + 4 m + 100)` spreads of opened fragments are looked at.
 #[derive(Drop)]
@@ -92,7 +93,8 @@ impl OverlappingFieldsCanBeMerged {
         self.lists
     }
 
-    /// How many pairs of fields were compared one by one, in the document that was left last.
+    /// How many pairs of fields were compared in the document that was left last, what was asked and looked at to pass
+    /// many at once counted with them.
     pub fn judged(&self) -> u128
         ensures { result ≡ self.now.judged }
     {
