@@ -3,6 +3,7 @@ pub mod DefinedVariables
 pub mod FirstVariables
 pub mod JudgedUses
 pub mod JudgedUsesLaws
+pub mod RecordedUses
 pub mod Recording
 pub mod RecordingLaws
 pub mod TypedUses

@@ -56,12 +56,12 @@ module _ {S C : Type 0} (scope : DocumentScope S C) (t : Typing S C) (document :
       subst (λ n. slice_get (use_at n o.types.input) 0 ≡ Some u) (sym node)
       (subst (λ z. slice_get (use_at {S = S} (variable_value x) z) 0 ≡ Some u) (sym input) refl) in
       let i = contains_get (occurrences_in scope.schema t d) o there in
-      all name d u v named stands reached (contains_flat uses_at (occurrences_in scope.schema t d) i.0 o 0 u i.1 one) is
+      all name d u v named stands reached (contains_flat (uses_at scope.schema) (occurrences_in scope.schema t d) i.0 o 0 u i.1 one) is
 
   all_uses : AllAllowed scope t document → AllUses
   all_uses all name d u v named stands reached used is =
       let g = contains_get (typed_uses scope.schema t d) u used in
-      let (o, (i, there), (j, one)) = flat_get uses_at (occurrences_in scope.schema t d) g.0 u g.1 in
+      let (o, (i, there), (j, one)) = flat_get (uses_at scope.schema) (occurrences_in scope.schema t d) g.0 u g.1 in
       let (x, node, input, same) = stands_at o.node o.types.input j u one in
       all name d o x u.expected v named stands reached (contains_at (occurrences_in scope.schema t d) i o there) node input
       (ap (first_of (variables_of document name)) same ∙ is)
@@ -79,5 +79,5 @@ pub positions_keep : {S C : Type 0} → AllowsFrom
     (recording_step recorded_uses (next_uses {S = S} {C = C}) given_by_uses) (λ a. recorded_uses a ≡ [])
     (always misplaced_variables)
 positions_keep start fresh schema t doc end es r =
-    subst (λ uses. DocumentGives schema.types doc uses es) (uses_recorded (scope_of schema doc) schema t doc)
+    subst (λ uses. DocumentGives schema.types doc uses es) (uses_recorded uses_at (scope_of schema doc) t doc)
     (recording_keeps recorded_uses next_uses given_by_uses [] start fresh schema t doc end es r)

@@ -4,5 +4,6 @@
 pub mod first_variables;
 pub mod judged_uses;
 pub mod judging;
+pub mod recorded_uses;
 pub mod typed_uses;
 pub mod variables_in_allowed_position;

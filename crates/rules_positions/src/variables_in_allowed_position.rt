@@ -8,13 +8,15 @@ ghost use Rattle.operation_scopes.specs.Index.{IsIndexOf};
 ghost use Rattle.rules_positions.specs.VariablesInAllowedPositionLaws.{positions_keep, positions_silent};
 ghost use Rattle.rules_positions.specs.AllowedPositions.{AllAllowed};
 ghost use Rattle.rules_positions.specs.Recording.{recording_step};
-ghost use Rattle.rules_positions.specs.TypedUses.{next_uses, use_values, with_use_if_expected};
+ghost use Rattle.rules_positions.specs.RecordedUses.{with_uses};
+ghost use Rattle.rules_positions.specs.TypedUses.{next_uses, use_expected, use_values};
 ghost use Rattle.rules_positions.specs.VariablesInAllowedPosition.{given_by_uses, misplaced_variables, recorded_uses};
 ghost use Rattle.rules_positions.specs.VariablesInAllowedPosition.{DocumentGives};
 
 use crate::judged_uses::report_document;
 use crate::judging::BySubtype;
-use crate::typed_uses::{TypedUse, add_use, begin_definition};
+use crate::recorded_uses::{add_use, begin_definition};
+use crate::typed_uses::TypedUse;
 use language::error::OutOfMemory;
 use language::position::SourcePosition;
 use language::tree::Definition;
@@ -123,8 +125,8 @@ fn add_value<'a>(
     place: SourcePosition,
 ) -> Result<(), OutOfMemory>
     ensures { OnOk result (use_values uses.new.items
-        ≡ with_use_if_expected (λ t. record { variable = variable.now; place = place; expected = t })
-        (option_map borrowed_shape expected.entry) (use_values uses.old.items)) }
+        ≡ with_uses (use_expected variable.now place (option_map borrowed_shape expected.entry))
+        (use_values uses.old.items)) }
 {
     match expected {
         Some(expected) => add_use(

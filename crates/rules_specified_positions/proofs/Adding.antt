@@ -3,7 +3,8 @@ use Rattle.std.proofs.Common.{◌≡◌, ℕ, ◌+◌, ◌<◌, List, length, ta
 use Rattle.std.specs.List.{flat_map}
 use Rattle.fragment_graph.proofs.Joining.{flat_map-next}
 use Rattle.rules_specified_uses.proofs.WaitingUses.{with_uses-append}
-use Rattle.rules_specified_uses.specs.ValueUses.{UseValue, with_uses}
+use Rattle.rules_positions.specs.RecordedUses.{with_uses}
+use Rattle.rules_specified_uses.specs.ValueUses.{UseValue}
 
 -- those of one part more
 pub added_next : {X : Type 0} (f : X → List UseValue) (xs : List X) (i : ℕ) (x : X) (lists mid new : List (List UseValue)) → x ≡ get_or xs i x → i < length xs

@@ -1,5 +1,5 @@
 -- The variables in the arguments of a definition, where a type is expected (section 5.8.5).
-use Rattle.std.specs.Prelude.{List, [], ◌∷◌, ◌++◌, Option}
+use Rattle.std.specs.Prelude.{List, [], Option}
 use Rattle.std.specs.List.{flat_map}
 use Rattle.std.specs.Option.{option_map_or}
 use Rattle.language.specs.declared.tree.Arguments.{Arguments}
@@ -8,12 +8,13 @@ use Rattle.meta.specs.declared.arguments.Argument.{Argument}
 use Rattle.meta.specs.declared.kinds.MetaTypeOf.{MetaTypeOf}
 use Rattle.schema.specs.Catalog.{Catalog}
 use Rattle.walk.specs.ContextState.{DocumentScope}
-use Rattle.events.specs.Node.{Node, Placed, ArgumentEntry, directive, field, fragment_definition, operation_definition}
+use Rattle.events.specs.Node.{Node, Placed, ArgumentEntry, directive, field}
 use Rattle.events.specs.Occurrence.{Occurrence, occurrences_in}
 use Rattle.events.specs.SchemaView.{directive_arguments, field_arguments}
 use Rattle.events.specs.Typing.{Typing}
+use Rattle.rules_positions.specs.RecordedUses.{next_recorded}
 use Rattle.rules_specified_uses.specs.InputPlaces.{argument_place}
-use Rattle.rules_specified_uses.specs.ValueUses.{UseValue, value_uses, with_uses}
+use Rattle.rules_specified_uses.specs.ValueUses.{UseValue, value_uses}
 
 module _ {S C : Type 0} (schema : Catalog S C) where
   -- the uses in an argument, by the arguments that its field or its directive defines
@@ -37,12 +38,6 @@ module _ {S C : Type 0} (schema : Catalog S C) where
   abbrev pub placed_uses : Typing S C → Definition S → List UseValue
   placed_uses t d = flat_map uses_at (occurrences_in schema t d)
 
-module _ {S : Type 0} where
-  abbrev pub recorded_at : List UseValue → Node S → List (List UseValue) → List (List UseValue)
-  recorded_at found (operation_definition o) lists = lists ++ [] ∷ []
-  recorded_at found (fragment_definition f) lists = lists ++ [] ∷ []
-  recorded_at found _ lists = with_uses found lists
-
 -- a list more at each definition, and the uses at any other node in the last list
 abbrev pub next_uses : {S C : Type 0} → DocumentScope S C → Occurrence S C → List (List UseValue) → List (List UseValue)
-next_uses scope o lists = recorded_at (uses_at scope.schema o) o.node lists
+next_uses = next_recorded uses_at

@@ -5,10 +5,10 @@ use Rattle.walk.specs.Rule.{AllowsFrom, SilentIff, always}
 use Rattle.rules_positions.specs.JudgedUsesLaws.{GivesUnless, uses_silent}
 use Rattle.rules_positions.specs.Recording.{recording_step}
 use Rattle.rules_positions.specs.RecordingLaws.{recording_keeps}
-use Rattle.rules_specified_positions.specs.PlacedUses.{next_uses, placed_uses}
+use Rattle.rules_positions.specs.UsesRecorded.{uses_recorded}
+use Rattle.rules_specified_positions.specs.PlacedUses.{next_uses, placed_uses, uses_at}
 use Rattle.rules_specified_uses.specs.ValueUses.{UseValue}
 use Rattle.rules_specified_positions.specs.Usages.{IsAllowed, Judged}
-use Rattle.rules_specified_positions.specs.UsesRecorded.{uses_recorded}
 use Rattle.rules_specified_positions.specs.VariablesInAllowedPosition.{AllAllowed, DocumentGives, given_by_uses}
 use Rattle.rules_specified_positions.specs.VariablesInAllowedPosition.{misplaced_variables, recorded_uses}
 
@@ -31,5 +31,5 @@ pub positions_keep : {S C : Type 0} → AllowsFrom
     (recording_step recorded_uses (next_uses {S = S} {C = C}) given_by_uses) (λ a. recorded_uses a ≡ [])
     (always misplaced_variables)
 positions_keep start fresh schema t doc end es r =
-    subst (λ uses. DocumentGives schema.types doc uses es) (uses_recorded (scope_of schema doc) t doc)
+    subst (λ uses. DocumentGives schema.types doc uses es) (uses_recorded uses_at (scope_of schema doc) t doc)
     (recording_keeps recorded_uses next_uses given_by_uses [] start fresh schema t doc end es r)

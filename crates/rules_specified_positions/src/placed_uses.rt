@@ -2,7 +2,8 @@
 
 ghost use Rattle.std.specs.Prelude.{◌≡◌, OnOk, option_copied};
 ghost use Rattle.std.specs.List.{flat_map};
-ghost use Rattle.rules_specified_uses.specs.ValueUses.{use_values, with_uses};
+ghost use Rattle.rules_positions.specs.RecordedUses.{with_uses};
+ghost use Rattle.rules_specified_uses.specs.ValueUses.{use_values};
 ghost use Rattle.rules_specified_positions.specs.PlacedUses.{argument_uses, arguments_uses};
 
 use language::error::OutOfMemory;

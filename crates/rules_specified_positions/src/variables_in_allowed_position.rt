@@ -1,16 +1,15 @@
 //! Each variable is used only where its type is allowed (GraphQL, October 2021, section 5.8.5).
 
-ghost use Rattle.std.specs.Prelude.{◌≡◌, [], IfOk, OnErr, OnOk};
+ghost use Rattle.std.specs.Prelude.{◌≡◌, [], OnOk};
 ghost use Rattle.events.specs.SchemaView.{directive_arguments, field_arguments};
 ghost use Rattle.walk.specs.ContextState.{typing};
-ghost use Rattle.walk.specs.Rule.{always, Appended};
-ghost use Rattle.walk.specs.Step.{KeepsPlace};
-ghost use Rattle.operation_scopes.specs.Index.{IsIndexOf};
+ghost use Rattle.walk.specs.Rule.{always};
 ghost use Rattle.rules_positions.specs.Recording.{recording_step};
+ghost use Rattle.rules_positions.specs.RecordedUses.{with_uses};
 ghost use Rattle.rules_specified_positions.specs.PlacedUses.{arguments_uses, next_uses};
-ghost use Rattle.rules_specified_uses.specs.ValueUses.{use_values, with_uses};
+ghost use Rattle.rules_specified_uses.specs.ValueUses.{use_values};
 ghost use Rattle.rules_specified_positions.specs.VariablesInAllowedPosition.{given_by_uses, misplaced_variables};
-ghost use Rattle.rules_specified_positions.specs.VariablesInAllowedPosition.{recorded_uses, AllAllowed, DocumentGives};
+ghost use Rattle.rules_specified_positions.specs.VariablesInAllowedPosition.{recorded_uses, AllAllowed};
 ghost use Rattle.rules_specified_positions.specs.VariablesInAllowedPositionLaws.{positions_keep, positions_silent};
 
 use crate::judging::ByDefaults;
@@ -18,11 +17,12 @@ use crate::placed_uses::add_arguments;
 use events::{arguments_of_directive, arguments_of_field};
 use language::error::OutOfMemory;
 use language::position::Spanning;
-use language::tree::{Definition, Directive, Field};
+use language::tree::{Directive, Field};
 use meta::check::CheckedScalar;
-use operation_scopes::index::{ScopeIndex, index_scopes};
+use operation_scopes::index::index_scopes;
 use rules_positions::judged_uses::report_document;
-use rules_specified_uses::value_uses::{PlacedUse, Uses, begin_definition};
+use rules_positions::recorded_uses::begin_definition;
+use rules_specified_uses::value_uses::{PlacedUse, Uses};
 use std::alloc::Global;
 use walk::{Criterion, Event, Fresh, Machine, Rule, SettledRule, ValidatorContext, Visitor};
 
@@ -45,28 +45,6 @@ pub fn factory<'a>(alloc: Global) -> VariableInAllowedPosition<'a>
     VariableInAllowedPosition {
         alloc,
         uses: Vec::new(alloc),
-    }
-}
-
-impl<'a> VariableInAllowedPosition<'a> {
-    /// Reports the misplaced variables of a document, by the document's index and the uses that were recorded.
-    ///
-    /// # Errors
-    ///
-    /// Out of memory. The types at hand stay; some of the errors may be reported then.
-    pub fn leave<S: CheckedScalar>(
-        &self,
-        ctx: &mut ValidatorContext<'a, S>,
-        document: &'a [Definition<'a, S>],
-        index: &ScopeIndex<'_>,
-    ) -> Result<(), OutOfMemory>
-        requires { IsIndexOf document.now index.now }
-        ensures ok { IfOk result (λ _. Appended
-            (DocumentGives ctx.old.schema.types document.now (recorded_uses self.now)) ctx.old ctx.new) }
-        ensures err { OnErr result (KeepsPlace ctx.old ctx.new) }
-    {
-        let uses = self.uses.as_slice();
-        report_document::<S, PlacedUse<'a>, ByDefaults>(self.alloc, ctx, document, index, uses)
     }
 }
 
@@ -108,7 +86,10 @@ impl<'a, S: CheckedScalar> Visitor<'a, S> for VariableInAllowedPosition<'a> {
             Event::ExitDocument(document) => {
                 let names = ctx.numbered_names(document)?;
                 let index = index_scopes(self.alloc, document, names)?;
-                self.leave(ctx, document, &index)
+                let uses = self.uses.as_slice();
+                report_document::<S, PlacedUse<'a>, ByDefaults>(
+                    self.alloc, ctx, document, &index, uses,
+                )
             }
             _ => Ok(()),
         }

@@ -1,2 +1,1 @@
-pub mod LastList
 pub mod WaitingUses

@@ -14,7 +14,8 @@ use Rattle.language_values.specs.declared.value.InputValue.TheVariants as v
 use Rattle.language_values.specs.declared.value.InputValue.TheOpen.{InputValue-F}
 use Rattle.schema.specs.Catalog.{Catalog}
 use Rattle.rules_specified_uses.specs.InputPlaces.{PlaceValue, field_place, item_place, place_value}
-use Rattle.rules_specified_uses.specs.ValueUses.{UseValue, UsesAt, uses_of, uses_step, value_uses, with_use, with_uses}
+use Rattle.rules_positions.specs.RecordedUses.{with_use, with_uses}
+use Rattle.rules_specified_uses.specs.ValueUses.{UseValue, UsesAt, uses_of, uses_step, value_uses}
 use Rattle.rules_specified_uses.specs.Waiting.{left_uses, waiting_uses}
 use Rattle.rules_specified_uses.specs.declared.input_places.InputPlace.{InputPlace}
 use Rattle.rules_specified_uses.specs.declared.value_uses.Waiting.{Waiting}

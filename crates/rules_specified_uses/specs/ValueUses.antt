@@ -1,5 +1,5 @@
 -- The variables in a value, where a type is expected (section 5.8.5).
-use Rattle.std.specs.Prelude.{ℕ, List, [], ◌∷◌, ◌++◌, Option, Some, None, map, string_bytes}
+use Rattle.std.specs.Prelude.{ℕ, List, [], ◌∷◌, Option, Some, None, string_bytes}
 use Rattle.std.specs.List.{flat_map}
 use Rattle.std.specs.declared.alloc.Global.{Global}
 use Rattle.std.specs.declared.vec.Vec.{Vec}
@@ -10,6 +10,7 @@ use Rattle.language_types.specs.declared.position.Span.{Span}
 use Rattle.language_values.specs.declared.value.InputValue.{InputValue, fold-InputValue}
 use Rattle.language_values.specs.declared.value.InputValue.TheOpen as opened
 use Rattle.schema.specs.Catalog.{Catalog}
+use Rattle.rules_positions.specs.JudgedUses.{values_in}
 use Rattle.rules_specified_uses.specs.InputPlaces.{PlaceValue, field_place, item_place}
 use Rattle.rules_specified_uses.specs.declared.value_uses.PlacedUse.{PlacedUse}
 
@@ -56,15 +57,4 @@ use_value u = record {
 }
 
 abbrev pub use_values : List (Vec PlacedUse Global) → List (List UseValue)
-use_values lists = map (λ us. map use_value us.items) lists
-
--- one use more in the last list
-abbrev pub with_use : UseValue → List (List UseValue) → List (List UseValue)
-with_use u [] = []
-with_use u (us ∷ []) = (us ++ u ∷ []) ∷ []
-with_use u (us ∷ (vs ∷ rest)) = us ∷ with_use u (vs ∷ rest)
-
--- each of these in turn
-abbrev pub with_uses : List UseValue → List (List UseValue) → List (List UseValue)
-with_uses [] lists = lists
-with_uses (u ∷ us) lists = with_uses us (with_use u lists)
+use_values = values_in use_value

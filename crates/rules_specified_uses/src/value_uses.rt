@@ -1,8 +1,9 @@
 //! The variables in a value, at any depth, where a type is expected.
 
-ghost use Rattle.std.specs.Prelude.{◌≡◌, ◌++◌, ◌∷◌, [], OnOk, option_map};
+ghost use Rattle.std.specs.Prelude.{◌≡◌, ◌++◌, OnOk, option_map};
+ghost use Rattle.rules_positions.specs.RecordedUses.{with_uses};
 ghost use Rattle.rules_specified_uses.specs.InputPlaces.{place_value};
-ghost use Rattle.rules_specified_uses.specs.ValueUses.{use_at, use_value, use_values, value_uses, with_use, with_uses};
+ghost use Rattle.rules_specified_uses.specs.ValueUses.{use_at, use_value, use_values, value_uses, UseValue};
 ghost use Rattle.rules_specified_uses.specs.Waiting.{left_uses, waiting_uses};
 
 use crate::input_places::{InputPlace, field_place, item_place};
@@ -10,6 +11,7 @@ use language_types::error::OutOfMemory;
 use language_types::position::{SourcePosition, Spanning};
 use language_types::types::BorrowedType;
 use language_values::value::InputValue;
+use rules_positions::recorded_uses::{VariableUse, add_use};
 use schema::model::SchemaTypeOf;
 use std::alloc::Global;
 
@@ -22,31 +24,14 @@ pub struct PlacedUse<'a> {
     pub has_default: bool,
 }
 
+impl<'a> VariableUse for PlacedUse<'a> {
+    ghost value_type = { UseValue };
+
+    ghost value = { use_value };
+}
+
 /// The uses in each definition of a document, in order.
 pub type Uses<'a> = Vec<Vec<PlacedUse<'a>>>;
-
-/// Begins a definition, in which there is no use yet.
-///
-/// # Errors
-///
-/// Out of memory.
-pub fn begin_definition<'a>(alloc: Global, uses: &mut Uses<'a>) -> Result<(), OutOfMemory>
-    ensures { OnOk result (use_values uses.new.items ≡ use_values uses.old.items ++ [] ∷ []) }
-{
-    uses.push(Vec::new(alloc))?;
-    Ok(())
-}
-
-// Adds a use to the definition that began last.
-fn add_use<'a>(uses: &mut Uses<'a>, found: PlacedUse<'a>) -> Result<(), OutOfMemory>
-    ensures { OnOk result (use_values uses.new.items ≡ with_use (use_value found.entry) (use_values uses.old.items)) }
-{
-    let count = uses.len();
-    if count > 0 {
-        uses[count - 1].push(found)?;
-    }
-    Ok(())
-}
 
 // Adds a variable, if a type is expected where it stands.
 fn add_variable<'a>(

@@ -1,6 +1,7 @@
 use Rattle.std.proofs.Common.{◌≡◌, option_copied, take}
 use Rattle.std.specs.List.{flat_map}
-use Rattle.rules_specified_uses.specs.ValueUses.{use_values, with_uses}
+use Rattle.rules_positions.specs.RecordedUses.{with_uses}
+use Rattle.rules_specified_uses.specs.ValueUses.{use_values}
 use Rattle.rules_specified_positions.specs.PlacedUses.{argument_uses}
 use Rattle.rules_specified_positions.proofs.placed_uses.add_each.Given as goal
 

@@ -1,6 +1,7 @@
 use Rattle.std.proofs.Common.{◌≡◌, OnOk, ap, subst}
 use Rattle.events.specs.SchemaView.{directive_arguments}
-use Rattle.rules_specified_uses.specs.ValueUses.{use_values, with_uses}
+use Rattle.rules_positions.specs.RecordedUses.{with_uses}
+use Rattle.rules_specified_uses.specs.ValueUses.{use_values}
 use Rattle.rules_specified_positions.specs.PlacedUses.{arguments_uses}
 use Rattle.rules_specified_positions.proofs.variables_in_allowed_position.add_directive.Goals as goal
 

@@ -1,6 +1,7 @@
 use Rattle.std.proofs.Common.{◌≡◌, option_map}
 use Rattle.rules_specified_uses.specs.InputPlaces.{place_value}
-use Rattle.rules_specified_uses.specs.ValueUses.{use_values, value_uses, with_uses}
+use Rattle.rules_positions.specs.RecordedUses.{with_uses}
+use Rattle.rules_specified_uses.specs.ValueUses.{use_values, value_uses}
 use Rattle.rules_specified_uses.specs.Waiting.{waiting_uses}
 use Rattle.rules_specified_uses.proofs.value_uses.add_value.Given as goal
 
