@@ -195,8 +195,8 @@ fn some_known<J: Judge>(
     })
 }
 
-/// What is known of what stands below some fields, nothing where they are few. What it looks at and asks is taken off the
-/// budget.
+/// What is known of what stands below some fields, nothing where they are few. What it looks at and asks is taken off
+/// the budget.
 ///
 /// # Errors
 ///

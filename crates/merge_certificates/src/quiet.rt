@@ -266,9 +266,9 @@ fn is_quiet_set<J: Judge>(
 }
 
 /// Whether all that stands in the sets of each union, what they spread written out, is known to merge, names aside that
-/// are set apart. `false` says nothing. It takes the fields and sets that it looks at, and what it asks, off the budget,
-/// and stops where nothing is left. Fields may be told apart by their object types: then more is known, and some sets are
-/// looked at for each type.
+/// are set apart. `false` says nothing. It takes the fields and sets that it looks at, and what it asks, off the
+/// budget, and stops where nothing is left. Fields may be told apart by their object types: then more is known, and
+/// some sets are looked at for each type.
 ///
 /// # Errors
 ///

@@ -26,8 +26,8 @@ pub struct Rows {
     pub numbered: Numbered,
 }
 
-/// The fields of one response name of two sets. Listed are rows that are known to merge with all others. What it looks at
-/// and asks is taken off the budget.
+/// The fields of one response name of two sets. Listed are rows that are known to merge with all others. What it looks
+/// at and asks is taken off the budget.
 ///
 /// # Errors
 ///

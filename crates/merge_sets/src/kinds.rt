@@ -1,5 +1,6 @@
 //! Kinds of fields: two fields of one kind fail with the same others, so that one of each kind is judged for all.
-ghost use Rattle.std.specs.Prelude.{◌≡◌, ◌<◌, ◌≤◌, ℕ, Bool, IfOk, IfSome, None, OnOk, Some, false, length, true, slice_get};
+ghost use Rattle.std.specs.Prelude.{◌≡◌, ◌<◌, ◌≤◌, ℕ, Bool, IfOk, IfSome, None, OnOk, Some, false, length, true};
+ghost use Rattle.std.specs.Prelude.{slice_get};
 ghost use Rattle.std.specs.Bool.{OnTrue};
 ghost use Rattle.std.specs.List.{All, Contains};
 ghost use Rattle.bit_matrix.specs.Set.{has};

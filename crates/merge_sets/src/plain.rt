@@ -151,8 +151,8 @@ fn may_be_met_again(sets: &[SetNode], s: usize) -> bool {
     }
 }
 
-/// Lists sets that a search may pass over: they are plain. Where few pairs would be compared, it lists none. What is asked
-/// of fields is taken off the budget, and where that hasn't enough, fewer sets are listed.
+/// Lists sets that a search may pass over: they are plain. Where few pairs would be compared, it lists none. What is
+/// asked of fields is taken off the budget, and where that hasn't enough, fewer sets are listed.
 ///
 /// # Errors
 ///

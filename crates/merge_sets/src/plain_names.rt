@@ -218,8 +218,8 @@ fn marked_names<J: Judge>(
 
 /// Lists the response names of which two fields may conflict. All others are plain.
 ///
-/// Each field is compared with the first one of its name, and where they are not alike, with those of other kinds. What is
-/// asked is taken off the budget, and where that hasn't enough, more names are listed.
+/// Each field is compared with the first one of its name, and where they are not alike, with those of other kinds. What
+/// is asked is taken off the budget, and where that hasn't enough, more names are listed.
 ///
 /// # Errors
 ///

@@ -108,8 +108,8 @@ pub fn are_in_conflict<J: Judge>(
     graph.judge.are_in_conflict(e, a.field, b.field)
 }
 
-/// Whether it is plain that no field of the one list conflicts with one of the other. `false` says nothing. What is asked
-/// is taken off the budget.
+/// Whether it is plain that no field of the one list conflicts with one of the other. `false` says nothing. What is
+/// asked is taken off the budget.
 pub fn agree_plainly<J: Judge>(
     graph: &Graph<J>,
     left: &[Entry],

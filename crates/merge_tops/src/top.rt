@@ -327,9 +327,9 @@ fn search_set<J: Judge>(
 ///
 /// Of `n` fragments at most `n (n - 1)` pairs are compared, and at least those that some set spreads together, unless
 /// it found enough. No search opens more than `n` fragments, and all together open each no more often than
-/// `most_openings` says: three times for each set, once for each inline fragment, and a hundred times. Fields are compared
-/// at most eight times as often as `search_cost` says: by the numbers of fields in and below the sets. Counted with them
-/// is what is asked, and looked at, to pass many at once.
+/// `most_openings` says: three times for each set, once for each inline fragment, and a hundred times. Fields are
+/// compared at most eight times as often as `search_cost` says: by the numbers of fields in and below the sets. Counted
+/// with them is what is asked and looked at to pass many at once.
 ///
 /// # Errors
 ///
