@@ -16,7 +16,7 @@ use Rattle.merge_sets.specs.declared.node.Entry.{Entry}
 use Rattle.merge_sets.specs.declared.node.InnerSet.{InnerSet}
 use Rattle.merge_sets.specs.Judgement.{Judgement}
 use Rattle.merge_search.specs.Spending.{sum_below, fragments_weight, sets_weight}
-use Rattle.merge_tops.specs.TopCosts.{top_cost, part_weight, inner_cost, own_count, set_cost, set_questions, search_cost}
+use Rattle.merge_tops.specs.TopCosts.{top_cost, part_weight, inner_cost, set_cost, set_questions, search_cost}
 use Rattle.merge_search.specs.Weight.{weight, field_weight, fields_weight, fragment_weight}
 use Rattle.merge_sets.specs.World.{World, own_of, spreads_of}
 use Rattle.merge_search.proofs.Weights.{length_weight, own_weight, nothing_weighs, sum_by_below}

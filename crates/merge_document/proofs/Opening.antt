@@ -1,40 +1,22 @@
 -- How much a search opens, in the document's words.
-use Rattle.std.proofs.Common.{◌≡◌, ◌==◌, ◌≤◌, ◌+◌, ◌*◌, ◌++◌, ◌||◌, ◌∙◌, Bool, true, false, ℕ, List, [], ◌∷◌, length, get_or, Option, Some, slice_get, ap, arith, refl, subst, sym, length-append}
-use Rattle.std.specs.Cmp.{IsEquivalence}
+use Rattle.std.proofs.Common.{◌≡◌, ◌≤◌, ◌+◌, ◌*◌, ℕ, List, [], ◌∷◌, length, ap, arith, refl}
 use Rattle.std.specs.List.{sum_by}
-use Rattle.std.specs.Option.{option_map_or}
-use Rattle.std.proofs.lemmas.List.Folds.{list_any-append}
 use Rattle.std.proofs.lemmas.List.Sums.{sum_by-cons}
-use Rattle.std.proofs.lemmas.Map.Keys.{IsDistinct-from_apart}
-use Rattle.std.proofs.lemmas.Map.Made.{length-le_from_is_member}
 use Rattle.std.proofs.lemmas.Nat.{mul-le}
-use Rattle.std.proofs.lemmas.Option.{slice_get-get_or}
 use Rattle.language.specs.declared.tree.Definition.{Definition}
-use Rattle.language.specs.declared.tree.Selection.{Selection}
-use Rattle.language.specs.SelectionsInside.{all_inside}
-use Rattle.meta.specs.declared.kinds.MetaTypeOf.{MetaTypeOf}
 use Rattle.schema.specs.Catalog.{Catalog}
 use Rattle.merge_sets.specs.declared.graph.Graph.{Graph}
-use Rattle.merge_sets.specs.declared.node.Entry.{Entry}
 use Rattle.merge_sets.specs.declared.node.InnerSet.{InnerSet}
 use Rattle.merge_sets.specs.declared.node.SetNode.{SetNode}
 use Rattle.merge_sets.specs.Judgement.{Judgement}
 use Rattle.merge_sets.specs.World.{World, spreads_of}
-use Rattle.merge_sets.proofs.Laws.{not_true}
 use Rattle.merge_search.specs.Counts.{all_spreads}
 use Rattle.merge_tops.specs.TopCounts.{inner_list, most_openings}
-use Rattle.merge_set_table.specs.declared.table.NumberedSet.{NumberedSet}
-use Rattle.merge_set_table.specs.Nesting.{Measures}
-use Rattle.merge_set_table.specs.Once.{IsEachOnce, is_among}
-use Rattle.merge_set_table.specs.Represents.{Represents, nothing, join, leaf, field, spread, unknown, inline}
-use Rattle.merge_set_table.specs.Table.{Numbered}
-use Rattle.merge_set_table.proofs.Counts.{count_append, count_inline, count_spread}
 use Rattle.merge_graph.specs.declared.judge.FieldJudge.{FieldJudge}
 use Rattle.merge_graph.specs.DocumentGraph.{IsGraphOf}
 use Rattle.merge_graph.specs.Sets.{plain_node}
 use Rattle.merge_graph.specs.SetsIn.{HasKnownConditions}
 use Rattle.merge_graph.specs.Sizes.{document_share, selection_count, selections_share, set_size, share_of}
-use Rattle.merge_graph.proofs.SetLaws.{spreads_same}
 use Rattle.merge_document.specs.Found.{most_opened}
 use Rattle.merge_document.proofs.Comparing.{of_all, spreads_measure}
 use Rattle.merge_document.proofs.Sums.{below_places, sorted_below, sum_by_both}

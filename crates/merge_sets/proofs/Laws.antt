@@ -1,5 +1,5 @@
 -- The judgement of two fields, under both flags and in both orders.
-use Rattle.std.proofs.Common.{ℕ, Option, None, Some, Bool, false, true, ◌≡◌, refl, sym, subst, ◌∙◌}
+use Rattle.std.proofs.Common.{Option, None, Some, Bool, false, true, ◌≡◌, refl, sym, subst, ◌∙◌}
 use Rattle.std.specs.Bool.{OnTrue}
 use Rattle.std.specs.Option.{is_some}
 use Rattle.merge_sets.specs.declared.node.Entry.{Entry}

@@ -1,4 +1,4 @@
-use Rattle.std.proofs.Common.{arith, map, refl, subst, sym, ◌∙◌}
+use Rattle.std.proofs.Common.{arith, map, refl, subst, ◌∙◌}
 use Rattle.std.proofs.lemmas.List.{drop_all, drop_more}
 use Rattle.merge_field_pairs.specs.Entries.{plain}
 use Rattle.merge_conflicts.specs.Texts.{errors_of, told}
