@@ -28,7 +28,7 @@ use merge_sets::plain::{are_plain_below, passed_over};
 use merge_sets::view::{agree_plainly, own, spreads};
 use std::alloc::{AllocError, Global};
 
-// Each field has so many questions for each of them.
+// How much may be asked for each own field, to know which sets are plain.
 const EACH: usize = 64;
 
 /// The square of the number of some fields.
@@ -57,7 +57,7 @@ fn are_passed<J: Judge>(
     agree_plainly(graph, fields, fields, budget)
 }
 
-/// The same, counted.
+/// Asks whether it is plain that there is nothing to find between some fields, and counts that.
 pub(crate) fn ask_passed<J: Judge>(
     graph: &Graph<J>,
     fields: &[Entry],
@@ -95,7 +95,7 @@ pub(crate) fn ask_agreeing<J: Judge>(
     Ok(rows)
 }
 
-/// What is known of what stands below some fields. As long as all are compared with each other, half of it is for this.
+/// What is known of what stands below some fields. To know it may take half as much as the square of their number.
 ///
 /// # Errors
 ///
@@ -158,8 +158,8 @@ pub(crate) fn ask_groups<J: Judge>(
     Ok(is_clear)
 }
 
-// Whether all that stands in a set is known to merge. It takes no longer than comparing its spreads with all that it
-// has would; where these pairs are few, `false` says nothing.
+// Whether all that stands in a set is known to merge. `false` says nothing, and where the budget is small nothing is
+// asked.
 fn is_merged<J: Judge>(
     alloc: Global,
     graph: &Graph<J>,
@@ -180,7 +180,8 @@ fn is_merged<J: Judge>(
     Ok(is_quiet)
 }
 
-/// The same, counted.
+/// Asks whether all that stands in a set is known to merge, and counts what that takes: at most twice as much as there are
+/// pairs of its spreads, and of a spread and an own field.
 ///
 /// # Errors
 ///
