@@ -180,8 +180,8 @@ fn is_merged<J: Judge>(
     Ok(is_quiet)
 }
 
-/// Asks whether all that stands in a set is known to merge, and counts what that takes: at most twice as much as there are
-/// pairs of its spreads, and of a spread and an own field.
+/// Asks whether all that stands in a set is known to merge, and counts what that takes: at most twice as much as there
+/// are pairs of its spreads, and of a spread and an own field.
 ///
 /// # Errors
 ///

@@ -33,8 +33,9 @@ use walk::{Event, Fresh, Machine, Rule, ValidatorContext, Visitor};
 ///
 /// No fragment is written out: with `n` definitions of fragments at most `n (n - 1)` pairs are compared.
 ///
-/// Let the document have `s` selections, at any depth, and `m` definitions of any kind. Let `d` be the sum of the depths
-/// of its selections; those of a definition are at depth 1. Where the type conditions of inline fragments are known:
+/// Let the document have `s` selections, at any depth, and `m` definitions of any kind. Let `d` be the sum of the
+/// depths of its selections; those of a definition are at depth 1. Where the type conditions of inline fragments are
+/// known:
 ///
 /// - at most `48 s d + 64 d + 500,000` pairs of fields are compared, what is asked and looked at to pass many at once
 ///   counted with them;
