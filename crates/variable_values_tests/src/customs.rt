@@ -3,7 +3,7 @@ ghost use Rattle.std.specs.Prelude.{[], true};
 ghost use Rattle.meta.specs.Answers.{AnswersBy};
 
 use language::error::{CheckError, OutOfMemory};
-use language::value::{DefaultScalarValue, InputValue};
+use language_values::value::{DefaultScalarValue, InputValue};
 use meta::default_check::DefaultCheck;
 use meta::{MetaType, ScalarMetaOf};
 use samples::build::with_int;
