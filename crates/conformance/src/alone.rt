@@ -1,10 +1,11 @@
 //! What single rules report of documents, against schemas that are read from texts.
-use graphql::{SourceScalar, read_document, read_schema};
+use graphql_reader::{SourceScalar, read_document};
 use rules_specified::single_root_field;
 use rules_specified_fields::typename_leafs;
 use rules_specified_positions::variables_in_allowed_position;
 use rules_specified_values::default_values_of_correct_type;
 use rules_values::arguments_of_correct_type;
+use sdl_reader::read_schema;
 use sdl_scalars::SourceCheck;
 use std::alloc::{AllocError, Global};
 use validation::walk::visit_rules;

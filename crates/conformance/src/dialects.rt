@@ -1,7 +1,8 @@
 //! What is said of documents by each dialect, against schemas that are read from texts.
-use graphql::validation::Dialect;
-use graphql::{RootNode, read_document, read_schema};
+use graphql_reader::read_document;
+use sdl_reader::read_schema;
 use std::alloc::{AllocError, Global};
+use validation::{Dialect, RootNode};
 
 /// The schema of the documents by section.
 const LIBRARY: &str = "
