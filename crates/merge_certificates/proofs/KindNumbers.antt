@@ -1,5 +1,5 @@
 -- What the numbers of kinds say of fields.
-use Rattle.std.proofs.Common.{◌≡◌, ◌<◌, ◌≤◌, ◌+◌, ◌++◌, ◌∷◌, [], ℕ, List, Option, None, Some, Bool, true, false, inl, inr, length, length-append, drop, get_or, slice_get, ap, arith, sym, subst, ◌∙◌}
+use Rattle.std.proofs.Common.{◌≡◌, ◌⊎◌, ◌<◌, ◌≤◌, ◌+◌, ◌++◌, ◌∷◌, [], ℕ, List, Option, None, Some, Bool, true, false, inl, inr, length, length-append, drop, get_or, slice_get, ap, arith, sym, subst, ◌∙◌}
 use Rattle.std.specs.Option.{IfSome}
 use Rattle.std.proofs.Math.ListN.{get_or-append}
 use Rattle.std.proofs.Math.Seq.{get_or-append_seam}
@@ -12,8 +12,8 @@ use Rattle.std.proofs.lemmas.Option.{get_or_from_slice_get, slice_get-get_or}
 use Rattle.bit_matrix.specs.Set.{has}
 use Rattle.bit_matrix.specs.declared.set.BitSet.{BitSet}
 use Rattle.merge_sets.specs.Judgement.{Judgement, KinAgree}
-use Rattle.merge_certificates.specs.Failing.{AgreeAt, AgreeKinds, AreNumbered, IsKindAt, StandFor}
-use Rattle.merge_sets.proofs.Laws.{same_some}
+use Rattle.merge_certificates.specs.Failing.{AgreeAt, AgreeKinds, AreNumbered, IsEmpty, IsKindAt, NoneAgrees, StandFor, TellsSome}
+use Rattle.merge_sets.proofs.Laws.{clash, same_some}
 use Rattle.merge_sets.proofs.InOrder.{at_of}
 use Rattle.merge_sets.proofs.OneName.{no_entry}
 use Rattle.merge_sets.specs.Kinds.{AreAgreeingRows, NeverFailsWith}
@@ -55,6 +55,36 @@ none_stand j kinds fields numbers none = record {
   where
     untold : (i : ℕ) → None ≡ Some i → ⊥
     untold i h = cc
+
+-- no number is told
+pub no_number : (numbers : List (Option ℕ)) → numbers ≡ [] → TellsSome numbers → ⊥
+no_number numbers none told = untold told.1 (sym (ap (λ zs. get_or zs told.0 None) none ∙ get_or_past [] told.0 None (omega arith)) ∙ told.2)
+  where
+    untold : (i : ℕ) → None ≡ Some i → ⊥
+    untold i h = cc
+
+-- where no number is in the set, no field agrees by its number
+pub none_agrees : (numbers : List (Option ℕ)) (set : BitSet) → IsEmpty set → NoneAgrees numbers (Some set)
+none_agrees numbers set empty l agrees = clash (has set agrees.0) agrees.2 (empty agrees.0)
+
+-- some number is told where one was, or that of one more field is
+pub told_more : (old new : List (Option ℕ)) (one : Option ℕ) → new ≡ old ++ one ∷ [] → TellsSome new → TellsSome old ⊎ ((i : ℕ) × (one ≡ Some i))
+told_more old new one is told = elim (cases_lt told.0 (length old)) [
+  | inl less ↦ inl (told.0, told.1, sym (ap (λ zs. get_or zs told.0 None) is ∙ get_or-append old (one ∷ []) None told.0 less) ∙ told.2)
+  | inr more ↦ elim (cases_eq told.0 (length old)) [
+    | inl same ↦
+        let here : get_or new told.0 None ≡ one =
+        ap (λ zs. get_or zs told.0 None) is ∙ ap (λ n. get_or (old ++ one ∷ []) n None) same ∙ get_or-append_seam old one [] None in
+        inr (told.1, sym here ∙ told.2)
+    | inr apart ↦ absurd (untold told.1 (sym (ap (λ zs. get_or zs told.0 None) is ∙ get_or_past (old ++ one ∷ []) told.0 None (past more apart)) ∙ told.2))
+  ]
+]
+  where
+    untold : (i : ℕ) → None ≡ Some i → ⊥
+    untold i h = cc
+
+    past : length old ≤ told.0 → (told.0 ≡ length old → ⊥) → length (old ++ one ∷ []) ≤ told.0
+    past more apart = omega (arith, more, apart, length-append old (one ∷ []))
 
 -- a field fails with no field of a kind that its own doesn't fail with
 pub kinds_agree : (j : Judgement) (e : Bool) (fields : List Entry) (numbers : List (Option ℕ)) (kinds : List ℕ) (k i one : ℕ) (set : BitSet)

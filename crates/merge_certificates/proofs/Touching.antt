@@ -17,7 +17,7 @@ use Rattle.merge_certificates.specs.declared.unions.Union.{Union}
 use Rattle.merge_certificates.specs.Unions.{AllJoined}
 use Rattle.merge_sets.specs.Merging.{own, spread, below, Merges, merges}
 use Rattle.merge_certificates.specs.Quiet.{AllQuietBut, AreKept, AreQuietBut, HoldBelow, MergesBut, merges_but}
-use Rattle.merge_certificates.specs.Touched.{AreApart, AreApartAt, AreListedAt, AreTouched, IsFreeOf, KnowsTouched, ListsBelow, StandsIn, here, told_at, under}
+use Rattle.merge_certificates.specs.Touched.{AreApart, AreApartAt, AreListedAt, AreTouched, IsFreeOf, KnowsTouched, ListsBelow, StandsIn, TellsOfSome, here, told_at, under}
 use Rattle.merge_sets.specs.World.{World, own_of, spreads_of, set_of, exclusive_of, Same}
 use Rattle.merge_sets.proofs.Laws.{clash, not_true}
 use Rattle.merge_sets.proofs.InOrder.{at_of}
@@ -61,7 +61,11 @@ module _ (w : World) (names : BitSet) where
 pub no_some : (v : Vec ℕ Global) → None ≡ Some v → ⊥
 no_some v is = cc
 
--- where nothing is told no two places are apart
+-- of no place is anything told
+pub none_told : (touched : Touched) → touched.lists.items ≡ [] → TellsOfSome touched → ⊥
+none_told touched is told = no_some told.1 (sym (ap (λ zs. get_or zs told.0 None) is ∙ get_or_past [] told.0 None (omega arith)) ∙ told.2)
+
+-- so no two places are apart
 pub none_at : (touched : Touched) → touched.lists.items ≡ [] → (k l : ℕ) → AreApartAt touched k l → ⊥
 none_at touched is k l at = no_some at.left (sym (ap (λ zs. get_or zs k None) is ∙ get_or_past [] k None (omega arith)) ∙ at.told_left)
 

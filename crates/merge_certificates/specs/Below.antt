@@ -18,6 +18,10 @@ abbrev pub IsKnownBelow : Below → ℕ → ℕ → Type 0
 IsKnownBelow known k l =
     (known.of_all ≡ true) ⊎ (((has known.places k ≡ true) × (has known.places l ≡ true)) ⊎ AreApartAt known.touched k l)
 
+-- It is known of the fields at some two places.
+abbrev pub KnowsSome : Below → Type 0
+KnowsSome known = (k : ℕ) × (l : ℕ) × IsKnownBelow known k l
+
 -- That the fields at two places merge: what stands below them does, and the kind of the second is one of those with which
 -- the first doesn't fail.
 abbrev pub IsPassedAt : Below → List (Option ℕ) → Option BitSet → ℕ → ℕ → Type 0

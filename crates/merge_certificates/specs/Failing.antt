@@ -41,6 +41,14 @@ IsNumberIn numbers set l = (i : ℕ) × (get_or numbers l None ≡ Some i) × (h
 abbrev pub AgreesBy : List (Option ℕ) → Option BitSet → ℕ → Type 0
 AgreesBy numbers agreeing l = IfSome agreeing (λ set. IsNumberIn numbers set l)
 
+-- No place is so.
+abbrev pub NoneAgrees : List (Option ℕ) → Option BitSet → Type 0
+NoneAgrees numbers agreeing = (l : ℕ) → AgreesBy numbers agreeing l → ⊥
+
+-- The number of some field is told.
+abbrev pub TellsSome : List (Option ℕ) → Type 0
+TellsSome numbers = (k : ℕ) × (i : ℕ) × (get_or numbers k None ≡ Some i)
+
 -- The field at one place fails with none at such a place.
 abbrev pub AgreeAt : Judgement → Bool → List Entry → List (Option ℕ) → ℕ → Option BitSet → Type 0
 AgreeAt j e fields numbers k agreeing =

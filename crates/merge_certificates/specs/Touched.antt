@@ -31,6 +31,10 @@ AreApart left right = (n : ℕ) → Contains left n → Contains right n → ⊥
 abbrev pub told_at : Touched → ℕ → Option (Vec ℕ Global)
 told_at touched k = get_or touched.lists.items k None
 
+-- Some place is told.
+abbrev pub TellsOfSome : Touched → Type 0
+TellsOfSome touched = (k : ℕ) × (v : Vec ℕ Global) × (told_at touched k ≡ Some v)
+
 -- Where a place is told, all names that stand below the field there are.
 abbrev pub AreTouched : World → BitSet → List Entry → Touched → Type 0
 AreTouched w names fields touched =

@@ -3,11 +3,11 @@ ghost use Rattle.std.specs.Prelude.{◌≡◌, ◌⊎◌, ◌<◌, ◌≤◌, �
 ghost use Rattle.std.specs.Prelude.{drop, false, length, slice_get, true};
 ghost use Rattle.std.specs.Bool.{OnTrue};
 ghost use Rattle.std.specs.List.{All, Contains};
-ghost use Rattle.merge_certificates.specs.Below.{IsIndexed, IsKnownBelow, IsPassedAt, KnowsBelow, KnowsPairs};
+ghost use Rattle.merge_certificates.specs.Below.{IsIndexed, IsKnownBelow, IsPassedAt, KnowsBelow, KnowsPairs, KnowsSome};
 ghost use Rattle.merge_certificates.specs.Near.{IsApartRow};
-ghost use Rattle.merge_certificates.specs.Touched.{KnowsTouched};
-ghost use Rattle.merge_sets.specs.Clear.{IsSumWithin, MergeBelow};
-ghost use Rattle.merge_certificates.specs.Failing.{AgreeAt};
+ghost use Rattle.merge_certificates.specs.Touched.{KnowsTouched, TellsOfSome};
+ghost use Rattle.merge_sets.specs.Clear.{AreLeaves, IsSumWithin, MergeBelow};
+ghost use Rattle.merge_certificates.specs.Failing.{AgreeAt, AgreesBy, NoneAgrees};
 ghost use Rattle.merge_sets.specs.Merging.{Merges};
 ghost use Rattle.merge_sets.specs.World.{world};
 
@@ -88,6 +88,7 @@ fn good_places<J: Judge>(
 ) -> Result<Vec<usize>, AllocError>
     ensures merge { IfOk result (λ v. MergeBelow (world J.judgement graph.now) e fields.now v.items) }
     ensures spent { budget.new ≤ budget.old }
+    ensures ticks { IfOk result (λ v. 0 < length v.items → budget.new < budget.old) }
 {
     let mut good = Vec::new(alloc);
     let mut left = *budget;
@@ -107,7 +108,7 @@ fn good_places<J: Judge>(
             next = next.saturating_add(1);
         }
     }
-    *budget = left.min(*budget);
+    *budget = left;
     Ok(good)
 }
 
@@ -154,6 +155,7 @@ fn touched_by_half<J: Judge>(
 ) -> Result<Touched, AllocError>
     ensures knows { IfOk result (KnowsTouched (world J.judgement graph.now) e fields.now) }
     ensures spent { budget.new ≤ budget.old }
+    ensures ticks { IfOk result (λ touched. TellsOfSome touched → budget.new < budget.old) }
 {
     let mut half = *budget / 2;
     let kept = *budget - half;
@@ -173,6 +175,7 @@ fn some_known<J: Judge>(
     ensures knows { IfOk result (KnowsBelow (world J.judgement graph.now) e fields.now) }
     ensures indexed { IfOk result (λ below. IsIndexed below (length fields.now)) }
     ensures spent { budget.new ≤ budget.old }
+    ensures ticks { IfOk result (λ below. KnowsSome below → budget.new < budget.old) }
 {
     let touched = touched_by_half(alloc, graph, e, fields, budget)?;
     let near = near_of(alloc, &touched, fields.len())?;
@@ -211,6 +214,7 @@ pub fn known_below<J: Judge>(
     ensures knows { IfOk result (KnowsBelow (world J.judgement graph.now) e fields.now) }
     ensures indexed { IfOk result (λ below. IsIndexed below (length fields.now)) }
     ensures spent { budget.new ≤ budget.old }
+    ensures ticks { IfOk result (λ below. KnowsSome below → AreLeaves fields.now ⊎ (budget.new < budget.old)) }
 {
     if fields.len() < WIDE {
         return Ok(all_or_nothing(alloc, false));
@@ -268,8 +272,9 @@ fn is_passed(
     end: usize,
 ) -> bool
     requires { l < end }
-    ensures { OnTrue result (IfSome near.now (IsApartRow below.now.touched k end)
+    ensures passed { OnTrue result (IfSome near.now (IsApartRow below.now.touched k end)
         → IsPassedAt below.now numbers.now agreeing.now k l) }
+    ensures agrees { OnTrue result (AgreesBy numbers.now agreeing.now l) }
 {
     if !agrees_by(numbers, agreeing, l) {
         return false;
@@ -294,6 +299,8 @@ fn others_by(
         → Contains v.items b ⊎ IsPassedAt below.now numbers.now agreeing.now k l) }
     ensures only { IfOk result (λ v. All (λ b. (l : ℕ) × (from ≤ l) × (slice_get fields.now l ≡ Some b)) v.items) }
     ensures once { IfOk result (λ v. IsSumWithin v.items (drop from fields.now)) }
+    ensures every { IfOk result (λ v. NoneAgrees numbers.now agreeing.now
+        → length (drop from fields.now) ≤ length v.items) }
 {
     let mut others = Vec::new(alloc);
     if below.of_all && agreeing.is_none() {
@@ -322,6 +329,8 @@ fn others_near(
         → Contains v.items b ⊎ IsPassedAt below.now numbers.now agreeing.now k l) }
     ensures only { IfOk result (λ v. All (λ b. (l : ℕ) × (from ≤ l) × (slice_get fields.now l ≡ Some b)) v.items) }
     ensures once { IfOk result (λ v. IsSumWithin v.items (drop from fields.now)) }
+    ensures every { IfOk result (λ v. NoneAgrees numbers.now agreeing.now
+        → length (drop from fields.now) ≤ length v.items) }
 {
     let near = row_near(alloc, below, k, fields.len())?;
     let others = others_by(alloc, fields, k, from, below, &near, numbers, agreeing)?;
@@ -354,6 +363,8 @@ pub fn others_from<J: Judge>(
     ensures only { IfOk result (λ v. All (λ b. (l : ℕ) × (from ≤ l) × (slice_get fields.now l ≡ Some b)) v.items) }
     ensures once { IfOk result (λ v. IsSumWithin v.items (drop from fields.now)) }
     ensures spent { budget.new ≤ budget.old }
+    ensures ticks { IfOk result (λ v. is_clear ≡ false → length v.items < length (drop from fields.now)
+        → budget.new < budget.old) }
 {
     let agreeing = agreeing_at(alloc, graph, e, fields, numbered, k, is_clear, budget)?;
     let numbers = numbered.numbers.as_slice();

@@ -3,7 +3,7 @@ ghost use Rattle.std.specs.Prelude.{◌≡◌, ◌<◌, ◌≤◌, ◌⊎◌, �
 ghost use Rattle.std.specs.Bool.{OnTrue};
 ghost use Rattle.bit_matrix.specs.Set.{has};
 ghost use Rattle.merge_sets.specs.Judgement.{NoneConflict};
-ghost use Rattle.merge_sets.specs.Clear.{AreClear, AreClearBelow, AreClearRows, AreClearRowsBelow};
+ghost use Rattle.merge_sets.specs.Clear.{AreClear, AreClearBelow, AreClearRows, AreClearRowsBelow, AreLeaves};
 ghost use Rattle.merge_sets.specs.World.{world};
 
 use crate::quiet::are_quiet;
@@ -35,6 +35,7 @@ fn are_quiet_below<J: Judge>(
     ensures clear { IfOk result (λ b.
         OnTrue b (AreClearBelow (world J.judgement graph.now) e fields.now fields.now)) }
     ensures spent { budget.new ≤ budget.old }
+    ensures ticks { IfOk result (λ b. OnTrue b (budget.new < budget.old)) }
 {
     let mut unions = Vec::new(alloc);
     unions_below(alloc, graph, e, by_objects, fields, &mut unions)?;
@@ -58,6 +59,7 @@ pub fn are_clear_below<J: Judge>(
     ensures clear { IfOk result (λ b.
         OnTrue b (AreClearBelow (world J.judgement graph.now) e fields.now fields.now)) }
     ensures spent { budget.new ≤ budget.old }
+    ensures ticks { IfOk result (λ b. OnTrue b (AreLeaves fields.now ⊎ (budget.new < budget.old))) }
 {
     if are_leaves(fields) {
         return Ok(true);
@@ -169,8 +171,9 @@ fn rows_of_both(
     rows: &BitSet,
     below: &BitSet,
 ) -> Result<BitSet, AllocError>
-    ensures { IfOk result (λ both. (k : ℕ) (a : Entry) → slice_get fields.now k ≡ Some a → has both k ≡ true
+    ensures both { IfOk result (λ both. (k : ℕ) (a : Entry) → slice_get fields.now k ≡ Some a → has both k ≡ true
         → (has rows.now k ≡ true) × ((a.below ≡ None) ⊎ (has below.now k ≡ true))) }
+    ensures rows { IfOk result (λ both. (k : ℕ) → has both k ≡ true → has rows.now k ≡ true) }
 {
     let mut both = BitSet::new(alloc);
     for k in 0..fields.len() {
@@ -210,6 +213,7 @@ pub fn clear_rows<J: Judge>(
 ) -> Result<BitSet, AllocError>
     ensures rows { IfOk result (AreClearRows (world J.judgement graph.now) e left.now right.now) }
     ensures spent { budget.new ≤ budget.old }
+    ensures ticks { IfOk result (λ rows. (k : ℕ) → has rows k ≡ true → budget.new < budget.old) }
 {
     if left.len() < FEW || right.len() < FEW {
         return Ok(BitSet::new(alloc));

@@ -1,8 +1,8 @@
 //! Fields that fail with one of some, told by their kinds.
-ghost use Rattle.std.specs.Prelude.{◌≡◌, ◌≤◌, IfOk, IfSome, None, Some, get_or, length};
+ghost use Rattle.std.specs.Prelude.{◌≡◌, ◌⊎◌, ◌<◌, ◌≤◌, IfOk, IfSome, None, Some, false, get_or, length};
 ghost use Rattle.std.specs.Bool.{OnTrue};
 ghost use Rattle.merge_certificates.specs.Failing.{AgreeAt, AgreeKinds, AgreesBy, AreNumbered, IsKindAt, IsNumberIn};
-ghost use Rattle.merge_certificates.specs.Failing.{IsEmpty, StandFor};
+ghost use Rattle.merge_certificates.specs.Failing.{IsEmpty, NoneAgrees, StandFor, TellsSome};
 ghost use Rattle.merge_sets.specs.Budget.{Asks};
 
 use bit_matrix::set::BitSet;
@@ -52,6 +52,7 @@ fn numbers_of<J: Judge>(
 ) -> Result<Vec<Option<usize>>, AllocError>
     ensures numbers { IfOk result (λ v. AreNumbered (J.are_kin graph.now.judge) kinds.now fields.now v.items) }
     ensures spent { budget.new ≤ budget.old }
+    ensures ticks { IfOk result (λ v. TellsSome v.items → budget.new < budget.old) }
 {
     let mut numbers = Vec::new(alloc);
     for k in 0..fields.len() {
@@ -76,6 +77,7 @@ pub fn numbered_kinds<J: Judge>(
     ensures stand { IfOk result (λ n.
         StandFor (J.judgement graph.now.judge) n.kinds.items fields.now n.numbers.items) }
     ensures spent { budget.new ≤ budget.old }
+    ensures ticks { IfOk result (λ n. TellsSome n.numbers.items → budget.new < budget.old) }
 {
     let none = Numbered {
         kinds: Vec::new(alloc),
@@ -151,6 +153,7 @@ fn agreeing_with<J: Judge>(
         IfOk result (λ set. StandFor j n.kinds.items fields.now n.numbers.items
         → AgreeAt j e fields.now n.numbers.items k (Some set)) }
     ensures spent { budget.new ≤ budget.old }
+    ensures ticks { IfOk result (λ set. IsEmpty set ⊎ (budget.new < budget.old)) }
 {
     let Some(i) = number_at(numbered.numbers.as_slice(), k) else {
         return Ok(BitSet::new(alloc));
@@ -184,6 +187,8 @@ pub fn agreeing_at<J: Judge>(
         IfOk result (λ agreeing. StandFor j n.kinds.items fields.now n.numbers.items
         → AgreeAt j e fields.now n.numbers.items k agreeing) }
     ensures spent { budget.new ≤ budget.old }
+    ensures ticks { IfOk result (λ agreeing. is_clear ≡ false
+        → NoneAgrees numbered.now.numbers.items agreeing ⊎ (budget.new < budget.old)) }
 {
     if is_clear {
         return Ok(None);

@@ -285,10 +285,12 @@ pub fn are_quiet_but<J: Judge>(
         → AllQuietBut (world J.judgement graph.now) l unions.items)) }
     ensures full { OnOk result (apart.old.room ≡ 0 → apart.new ≡ apart.old) }
     ensures spent { budget.new ≤ budget.old }
+    ensures ticks { IfOk result (λ b. OnTrue b (budget.new < budget.old)) }
 {
     let mut waiting = unions;
     let mut rest = *budget;
     while rest > 0 {
+        rest -= 1;
         let Some(next) = waiting.pop() else {
             *budget = rest;
             return Ok(true);
@@ -296,7 +298,7 @@ pub fn are_quiet_but<J: Judge>(
         let Some((set, size)) = united(alloc, graph, next.sets.as_slice(), rest)? else {
             break;
         };
-        rest = (rest - 1).saturating_sub(size);
+        rest = rest.saturating_sub(size);
         if !is_quiet_set(
             alloc,
             graph,
@@ -330,6 +332,7 @@ pub fn are_quiet<J: Judge>(
 ) -> Result<bool, AllocError>
     ensures quiet { IfOk result (λ b. OnTrue b (AllQuiet (world J.judgement graph.now) unions.items)) }
     ensures spent { budget.new ≤ budget.old }
+    ensures ticks { IfOk result (λ b. OnTrue b (budget.new < budget.old)) }
 {
     let mut apart = none_apart(alloc, 0);
     let is_quiet = are_quiet_but(alloc, graph, unions, by_objects, &mut apart, budget)?;

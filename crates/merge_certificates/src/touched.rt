@@ -8,7 +8,7 @@ ghost use Rattle.std.specs.List.{All, Contains};
 ghost use Rattle.bit_matrix.specs.Set.{has};
 ghost use Rattle.merge_certificates.specs.Quiet.{AreKept};
 ghost use Rattle.merge_certificates.specs.Touched.{AreApartAt, AreListedAt, AreTouched, IsFreeOf, KnowsTouched};
-ghost use Rattle.merge_certificates.specs.Touched.{ListsAll, ListsBelow, told_at};
+ghost use Rattle.merge_certificates.specs.Touched.{ListsAll, ListsBelow, TellsOfSome, told_at};
 ghost use Rattle.merge_sets.specs.World.{world};
 
 use crate::quiet::{add_sets, are_quiet_but, none_apart};
@@ -163,6 +163,7 @@ pub fn touched_below<J: Judge>(
 ) -> Result<Touched, AllocError>
     ensures knows { IfOk result (KnowsTouched (world J.judgement graph.now) e fields.now) }
     ensures spent { budget.new ≤ budget.old }
+    ensures ticks { IfOk result (λ touched. TellsOfSome touched → budget.new < budget.old) }
 {
     let mut apart = none_apart(alloc, fields.len());
     let mut unions = Vec::new(alloc);

@@ -1,7 +1,10 @@
 //! The fields of one response name of two sets: each of the one is compared with those of the other that it isn't known
 //! to merge with.
-ghost use Rattle.std.specs.Prelude.{◌≡◌, ◌≤◌, IfOk, Some, slice_get};
-ghost use Rattle.merge_sets.specs.Clear.{AreClearRows, AreOthers, IsSumWithin};
+ghost use Rattle.std.specs.Prelude.{◌≡◌, ◌⊎◌, ◌<◌, ◌≤◌, IfOk, Some, false, length, slice_get};
+ghost use Rattle.bit_matrix.specs.Set.{has};
+ghost use Rattle.merge_certificates.specs.Below.{KnowsSome};
+ghost use Rattle.merge_certificates.specs.Failing.{TellsSome};
+ghost use Rattle.merge_sets.specs.Clear.{AreClearRows, AreLeaves, AreOthers, IsSumWithin};
 ghost use Rattle.merge_certificates.specs.TwoSets.{KnowsRows, rights_of};
 ghost use Rattle.merge_sets.specs.World.{world};
 ghost use Rattle.merge_sets.specs.declared.node.Entry.{Entry};
@@ -46,6 +49,9 @@ pub fn rows_of<J: Judge>(
     ensures right { IfOk result (λ rows. rights_of rows ≡ right.now) }
     ensures knows { IfOk result (KnowsRows (world J.judgement graph.now) e) }
     ensures spent { budget.new ≤ budget.old }
+    ensures below { IfOk result (λ rows. KnowsSome rows.below
+        → AreLeaves rows.fields.items ⊎ (budget.new < budget.old)) }
+    ensures kinds { IfOk result (λ rows. TellsSome rows.numbered.numbers.items → budget.new < budget.old) }
 {
     let rows = Vec::from_slice(alloc, left)?;
     let mut fields = Vec::from_slice(alloc, left)?;
@@ -79,6 +85,8 @@ pub fn others_of<J: Judge>(
         → slice_get rows.now.left.items k ≡ Some a → AreOthers w e a (rights_of rows.now) v.items) }
     ensures once { IfOk result (λ v. IsSumWithin v.items (rights_of rows.now)) }
     ensures spent { budget.new ≤ budget.old }
+    ensures ticks { IfOk result (λ v. has rows.now.clear k ≡ false
+        → length v.items < length (rights_of rows.now) → budget.new < budget.old) }
 {
     if rows.clear.contains(k) {
         return Ok(Vec::new(alloc));

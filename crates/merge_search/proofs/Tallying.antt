@@ -61,8 +61,8 @@ asked_of w g l k =
 pub asked_same : (w : World) (g : ℕ → ℕ) (s t : Search) → t.searched ≡ s.searched → t.repeated ≡ s.repeated → asked w g t ≡ asked w g s
 asked_same w g s t p r = ap (λ (l : Log). asked_of w g l t.repeated) p ∙ ap (λ (k : ℕ). asked_of w g s.searched k) r
 
-pub no_tally : (w : World) (s : Search) → Begins s → Tally w s
-no_tally w s b = record {
+pub no_tally : (w : World) (n : ℕ) (s : Search) → Begins n s → Tally w s
+no_tally w n s b = record {
   log = [];
   distinct = record { apart = λ k l r q lt p h same. cc; different = All-nil (λ r. r.first ≡ r.second → ⊥) };
   within = All-nil (λ r. (r.first < length w.fragments) × (r.second < length w.fragments));

@@ -7,14 +7,15 @@ use Rattle.merge_search.specs.Log.{covers_of, Notes, NotesBoth}
 use Rattle.merge_search.specs.Counts.{greatest, most_repeats}
 use Rattle.merge_search.specs.Questions.{pair_in, search_in}
 
-pub record Begins (s : Search) : Type 0 where
+-- Nothing was found or noted; so many fields were compared, or asked about.
+pub record Begins (n : ℕ) (s : Search) : Type 0 where
   pub pairs : (e : Bool) (f g : ℕ) → pair_in s e f g ≡ false
   pub searched : (e : Bool) (i g : ℕ) → search_in s e i g ≡ false
   pub found : s.found.items ≡ []
   pub compared : s.compared ≡ 0
   pub opened : s.opened ≡ 0
   pub looked : s.looked ≡ 0
-  pub judged : s.judged ≡ 0
+  pub judged : s.judged ≡ n
   pub repeated : s.repeated ≡ 0
 
 pub record NotesPair (f g : ℕ) (e : Bool) (old new : Search) : Type 0 where

@@ -1,9 +1,12 @@
 //! What is known to merge without a search, and what it takes to know it: that is counted as comparing fields is.
-ghost use Rattle.std.specs.Prelude.{◌≡◌, ◌*◌, ◌<◌, ◌≤◌, IfOk, OnOk, Some, length, slice_get};
+ghost use Rattle.std.specs.Prelude.{◌≡◌, ◌⊎◌, ◌*◌, ◌<◌, ◌≤◌, ℕ, IfOk, OnOk, Some, false, length, slice_get, true};
 ghost use Rattle.std.specs.Bool.{OnTrue};
+ghost use Rattle.bit_matrix.specs.Set.{has};
+ghost use Rattle.merge_certificates.specs.Below.{KnowsSome};
+ghost use Rattle.merge_certificates.specs.Failing.{TellsSome};
 ghost use Rattle.merge_certificates.specs.TwoSets.{KnowsRows, rights_of};
 ghost use Rattle.merge_search.specs.Spending.{AsksUpto, CountsAtLeast};
-ghost use Rattle.merge_sets.specs.Clear.{AreClear, AreClearRows, AreOthers, IsSumWithin};
+ghost use Rattle.merge_sets.specs.Clear.{AreClear, AreClearRows, AreLeaves, AreOthers, IsSumWithin};
 ghost use Rattle.merge_sets.specs.World.{world};
 ghost use Rattle.merge_sets.specs.declared.node.Entry.{Entry};
 
@@ -60,6 +63,7 @@ pub(crate) fn ask_rows<J: Judge>(
 ) -> Result<BitSet, AllocError>
     ensures rows { IfOk result (AreClearRows (world J.judgement graph.now) e left.now right.now) }
     ensures counts { OnOk result (AsksUpto (2 * (length left.now * length right.now)) search.old search.new) }
+    ensures ticks { IfOk result (λ rows. (k : ℕ) → has rows k ≡ true → CountsAtLeast 1 search.old search.new) }
 {
     let most = twice_pairs(left, right);
     let mut budget = most;
@@ -87,6 +91,10 @@ pub(crate) fn ask_pairs<J: Judge>(
     ensures right { IfOk result (λ rows. rights_of rows ≡ right.now) }
     ensures knows { IfOk result (KnowsRows (world J.judgement graph.now) e) }
     ensures counts { OnOk result (AsksUpto (2 * (length left.now * length right.now)) search.old search.new) }
+    ensures below { IfOk result (λ rows. KnowsSome rows.below
+        → AreLeaves rows.fields.items ⊎ CountsAtLeast 1 search.old search.new) }
+    ensures kinds { IfOk result (λ rows. TellsSome rows.numbered.numbers.items
+        → CountsAtLeast 1 search.old search.new) }
 {
     let most = twice_pairs(left, right);
     let mut budget = most;
@@ -111,6 +119,8 @@ pub(crate) fn ask_others<J: Judge>(
         → slice_get rows.now.left.items k ≡ Some a → AreOthers w e a (rights_of rows.now) v.items) }
     ensures once { IfOk result (λ v. IsSumWithin v.items (rights_of rows.now)) }
     ensures counts { OnOk result (AsksUpto (length (rights_of rows.now)) search.old search.new) }
+    ensures ticks { IfOk result (λ v. has rows.now.clear k ≡ false
+        → length v.items < length (rights_of rows.now) → CountsAtLeast 1 search.old search.new) }
 {
     let most = rows.fields.len().saturating_sub(rows.left.len());
     let mut budget = most;

@@ -48,7 +48,7 @@ pub struct Search {
 
 /// A search that has found nothing.
 pub fn no_search(alloc: Global) -> Search
-    ensures { Begins result }
+    ensures { Begins 0 result }
 {
     Search {
         alloc,

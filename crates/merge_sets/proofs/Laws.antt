@@ -1,8 +1,9 @@
 -- The judgement of two fields, under both flags and in both orders.
-use Rattle.std.proofs.Common.{Option, None, Some, Bool, false, true, ◌≡◌, refl, sym, subst, ◌∙◌}
+use Rattle.std.proofs.Common.{Option, None, Some, Bool, false, true, ◌≡◌, ◌<◌, ℕ, arith, inl, inr, refl, sym, subst, ◌∙◌}
 use Rattle.std.specs.Bool.{OnTrue}
 use Rattle.std.specs.Option.{is_some}
 use Rattle.merge_sets.specs.declared.node.Entry.{Entry}
+use Rattle.merge_sets.specs.Budget.{Asks}
 use Rattle.merge_sets.specs.Judgement.{Lawful}
 use Rattle.merge_sets.specs.World.{World, conflict_of, exclusive_of}
 
@@ -21,6 +22,11 @@ both even k = k
 pub on_true_weaker : {P Q : Type 0} (b : Bool) → (P → Q) → OnTrue b P → OnTrue b Q
 on_true_weaker true f h = f h
 on_true_weaker false f h = h
+
+-- what is asked is taken off, where there is something to take it from
+pub asked_one : (b : Bool) (old new : ℕ) → Asks 1 (b ≡ false) old new → (b ≡ false → old < 1) → 0 < old → new < old
+asked_one b old new (inl asked) fewer some = omega (arith, asked)
+asked_one b old new (inr untold) fewer some = absurd (omega (arith, fewer untold.0, some))
 
 pub both_flags : (P : Bool → Type 0) (e : Bool) → P true → P false → P e
 both_flags P true p q = p

@@ -1,5 +1,5 @@
 //! How much may still be asked and looked at, where fields are passed many at once.
-ghost use Rattle.std.specs.Prelude.{◌≡◌, ◌≤◌, false};
+ghost use Rattle.std.specs.Prelude.{◌≡◌, ◌<◌, ◌≤◌, false};
 ghost use Rattle.merge_sets.specs.Budget.{Asks};
 
 /// Takes so many questions off a budget, or says that it has fewer.
@@ -8,6 +8,7 @@ ghost use Rattle.merge_sets.specs.Budget.{Asks};
 pub fn take_questions(budget: &mut usize, questions: usize) -> bool
     ensures asks { Asks questions (result ≡ false) budget.old budget.new }
     ensures spent { budget.new ≤ budget.old }
+    ensures fewer { result ≡ false → budget.old < questions }
 {
     if questions > *budget {
         return false;

@@ -1,9 +1,9 @@
 //! Sets in which nothing can conflict, so that a search passes over them.
-ghost use Rattle.std.specs.Prelude.{◌≡◌, ◌≤◌, IfOk};
+ghost use Rattle.std.specs.Prelude.{◌≡◌, ◌<◌, ◌≤◌, ℕ, IfOk, OnOk, length, true};
 ghost use Rattle.std.specs.Bool.{OnTrue};
 ghost use Rattle.std.specs.List.{All};
 ghost use Rattle.bit_matrix.specs.Set.{has};
-ghost use Rattle.merge_sets.specs.World.{world, set_of};
+ghost use Rattle.merge_sets.specs.World.{own_of, set_of, world};
 ghost use Rattle.merge_sets.specs.Plain.{ArePlain, ArePlainBut, IsPlain, IsPlainBelow, IsPlainField};
 
 use crate::graph::Graph;
@@ -105,6 +105,8 @@ fn plain_sets<J: Judge>(
 ) -> Result<BitSet, AllocError>
     ensures plain { IfOk result (λ sets. ArePlain (world J.judgement graph.now) sets) }
     ensures spent { budget.new ≤ budget.old }
+    ensures ticks { let w = world J.judgement graph.now in OnOk result ((s : ℕ) → 0 < length (own_of w s)
+        → 0 < budget.old → budget.new < budget.old) }
 {
     let mixed = mixed_names(alloc, graph, budget)?;
     let mut sets = BitSet::new(alloc);
@@ -164,6 +166,8 @@ pub fn passed_over<J: Judge>(
 ) -> Result<BitSet, AllocError>
     ensures plain { IfOk result (λ sets. ArePlain (world J.judgement graph.now) sets) }
     ensures spent { budget.new ≤ budget.old }
+    ensures ticks { let w = world J.judgement graph.now in IfOk result (λ sets. (s : ℕ) → has sets s ≡ true
+        → 0 < length (own_of w s) → 0 < budget.old → budget.new < budget.old) }
 {
     if is_worthwhile(graph) {
         plain_sets(alloc, graph, budget)

@@ -9,12 +9,13 @@ ghost use Rattle.merge_sets.specs.Judgement.{NoneConflict};
 ghost use Rattle.merge_sets.specs.Kinds.{IsToldOf};
 ghost use Rattle.merge_sets.specs.Plain.{ArePlainBut, HasAllMarked};
 
+use crate::budget::take_questions;
 use crate::graph::Graph;
 use crate::groups::{fields_named, first_fields, make_set, sorted_fields};
 use crate::judge::Judge;
 use crate::kinds::agree_by_kinds;
 use crate::node::{Entry, SetNode};
-use crate::view::{is_like, own};
+use crate::view::own;
 use bit_matrix::set::BitSet;
 use std::alloc::{AllocError, Global};
 
@@ -63,7 +64,7 @@ fn first_like(seen: &mut Seen, field: Entry) -> Result<usize, AllocError>
     }
 }
 
-// Looks at a field. Of a name that is marked no more need be known.
+// Looks at a field, which is taken off the budget. Of a name that is marked no more need be known.
 fn note_field<J: Judge>(
     graph: &Graph<J>,
     field: Entry,
@@ -72,12 +73,14 @@ fn note_field<J: Judge>(
 ) -> Result<(), AllocError>
     ensures notes { OnOk result (Notes (J.are_alike graph.now.judge) (field ∷ []) seen.old seen.new) }
     ensures spent { budget.new ≤ budget.old }
+    ensures ticks { OnOk result (0 < budget.old → budget.new < budget.old) }
 {
+    let may_ask = take_questions(budget, 1);
     if seen.mixed.contains(field.response) {
         return Ok(());
     }
     let one = first_like(seen, field)?;
-    if !is_like(graph, one, field.field, budget) {
+    if !may_ask || !graph.judge.is_plainly_like(one, field.field) {
         seen.mixed.insert(field.response)?;
     }
     Ok(())
@@ -93,6 +96,8 @@ fn note_own<J: Judge>(
     ensures notes { let w = world J.judgement graph.now in
         OnOk result (Notes (J.are_alike graph.now.judge) (own_of w s) seen.old seen.new) }
     ensures spent { budget.new ≤ budget.old }
+    ensures ticks { let w = world J.judgement graph.now in
+        OnOk result (0 < length (own_of w s) → 0 < budget.old → budget.new < budget.old) }
 {
     for field in own(graph, s) {
         note_field(graph, *field, seen, budget)?;
@@ -108,6 +113,8 @@ fn unlike_names<J: Judge>(
 ) -> Result<BitSet, AllocError>
     ensures names { IfOk result (ArePlainBut (world J.judgement graph.now)) }
     ensures spent { budget.new ≤ budget.old }
+    ensures ticks { let w = world J.judgement graph.now in OnOk result ((s : ℕ) → 0 < length (own_of w s)
+        → 0 < budget.old → budget.new < budget.old) }
 {
     let mut seen = none_seen(alloc);
     for s in 0..graph.sets.len() {
@@ -231,6 +238,8 @@ pub fn mixed_names<J: Judge>(
 ) -> Result<BitSet, AllocError>
     ensures names { IfOk result (ArePlainBut (world J.judgement graph.now)) }
     ensures spent { budget.new ≤ budget.old }
+    ensures ticks { let w = world J.judgement graph.now in OnOk result ((s : ℕ) → 0 < length (own_of w s)
+        → 0 < budget.old → budget.new < budget.old) }
 {
     let unlike = unlike_names(alloc, graph, budget)?;
     let fields = marked_fields(alloc, graph, &unlike)?;

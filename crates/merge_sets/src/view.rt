@@ -146,15 +146,6 @@ fn are_like<J: Judge>(graph: &Graph<J>, one: usize, others: &[Entry], budget: &m
     true
 }
 
-/// Whether it is plain that a field is like one. `false` says nothing. The question is taken off the budget.
-pub fn is_like<J: Judge>(graph: &Graph<J>, one: usize, other: usize, budget: &mut usize) -> bool
-    ensures like { OnTrue result (J.are_alike graph.now.judge one other) }
-    ensures asks { Asks 1 (result ≡ false) budget.old budget.new }
-    ensures spent { budget.new ≤ budget.old }
-{
-    take_questions(budget, 1) && graph.judge.is_plainly_like(one, other)
-}
-
 /// Whether nothing stands below any of them.
 pub fn are_leaves(fields: &[Entry]) -> bool
     ensures { OnTrue result (AreLeaves fields.now) }

@@ -1,5 +1,5 @@
 -- What follows once all sets were searched.
-use Rattle.std.proofs.Common.{◌≡◌, ◌==◌, ℕ, ◌+◌, ◌<◌, ◌≤◌, List, [], length, get_or, refl, sym, subst, ap, ◌∙◌, arith, Some, inl, inr, false, true, slice_get, below_more}
+use Rattle.std.proofs.Common.{◌≡◌, ◌==◌, ℕ, ◌+◌, ◌<◌, ◌≤◌, List, [], length, get_or, refl, sym, subst, ap, ◌∙◌, arith, Some, inl, inr, false, true, slice_get, below_more, max, min}
 use Rattle.std.specs.List.{All, Contains}
 use Rattle.std.proofs.lemmas.Option.{get_or_from_slice_get, slice_get_within, slice_get-get_or}
 use Rattle.std.proofs.lemmas.Bool.{cases_order}
@@ -17,7 +17,9 @@ use Rattle.merge_sets.specs.Opening.{ReachedFrom, Opens}
 use Rattle.merge_search.specs.Work.{pair_in, search_in, OwnPairs, Done, AllClosed, Grows, Did}
 use Rattle.merge_sets.specs.Merging.{Stands, own, spread, Apart, own_own, own_spread, spread_own, two_spreads, one_spread, SetMerges, Merges}
 use Rattle.merge_search.specs.Reports.{Root, Judged, Real, AddsAll, AtOwn, AtPlaces, AtSearched, IsRoot}
-use Rattle.merge_search.specs.State.{Begins}
+use Rattle.merge_search.specs.declared.log.Log.{Log}
+use Rattle.merge_search.specs.Log.{in_log}
+use Rattle.merge_search.specs.State.{Begins, Keeps}
 use Rattle.merge_tops.specs.Tops.{AtTop, AtWithin, AtWritten, AtSpreads, AtListed, OwnWritten, Top}
 use Rattle.merge_search.proofs.Adding.{Upto, refuted, roots_of, no_root}
 use Rattle.merge_sets.proofs.Laws.{clash, conflict_self, same_some}
@@ -128,8 +130,21 @@ next_tops w order k had d M g r =
     let before = had M (grows_then d.grows g) r in
     (d.closes M g r before.0, below_more (λ i. Top w M (get_or order i 0)) k before.1 (d.holds M g r))
 
-pub no_tops : (w : World) (order : List ℕ) (s : Search) → Begins s → TopsDone w order 0 s
-no_tops w order s b M g r = (
+-- what is asked at the beginning finds and notes nothing
+pub begins_asked : (m : ℕ) (s t : Search) → Begins m s → Keeps s t → Begins t.judged t
+begins_asked m s t b k = record {
+  pairs = λ e f g. ap (λ (l : Log). in_log l e (max f g) (min f g)) k.pairs ∙ b.pairs e f g;
+  searched = λ e i g. ap (λ (l : Log). in_log l e i g) k.searched ∙ b.searched e i g;
+  found = k.found ∙ b.found;
+  compared = k.compared ∙ b.compared;
+  opened = k.opened ∙ b.opened;
+  looked = k.looked ∙ b.looked;
+  judged = refl;
+  repeated = k.repeated ∙ b.repeated;
+}
+
+pub no_tops : (w : World) (order : List ℕ) (n : ℕ) (s : Search) → Begins n s → TopsDone w order 0 s
+no_tops w order n s b M g r = (
   record {
     pairs_closed = λ x f h z. absurd (clash (pair_in s x f h) z (b.pairs x f h));
     searches_closed = λ x i h z. absurd (clash (search_in s x i h) z (b.searched x i h));

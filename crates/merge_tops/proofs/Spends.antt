@@ -32,6 +32,12 @@ times_left f m (x ∷ xs) = sum_by-cons (λ x. m * f x) x xs ∙ ap (λ (n : ℕ
     spread : (m x y : ℕ) → m * x + m * y ≡ m * (x + y)
     spread m x y = omega arith
 
+pub sum_next : (f : ℕ → ℕ) (n : ℕ) → sum_below f (n + 1) ≡ sum_below f n + f n
+sum_next f n = ap (λ (m : ℕ). sum_below f m) after
+  where
+    after : n + 1 ≡ suc n
+    after = omega arith
+
 module _ (w : World) where
   -- what was asked is taken
   pub asks_take : (m : ℕ) (s t : Search) → AsksUpto m s t → Takes w m s t
@@ -87,18 +93,20 @@ module _ (w : World) where
   pub passed_spends : (xs : List Entry) (s t : Search) → AsksUpto (2 * length xs) s t → Spends w (fields_weight w xs * fields_weight w xs) s t
   passed_spends xs s t a = record { paid = omega (arith, (asks_take (2 * length xs) s t a).paid, later_half xs, length_weight w xs) }
 
-  -- so much of it may still be taken
-  pub record TakesBut (all rest : ℕ) (old new : Search) : Type 0 where
-    pub paid : new.judged + 8 * (credit w old + rest) ≤ old.judged + 8 * (credit w new + all)
+  -- so much of it may still be taken, and so much was asked
+  pub record TakesBut (all rest asked : ℕ) (old new : Search) : Type 0 where
+    pub paid : new.judged + 8 * (credit w old + rest) ≤ old.judged + (8 * (credit w new + all) + asked)
 
-  pub but_start : (n : ℕ) (s : Search) → TakesBut n n s s
-  but_start n s = record { paid = omega arith }
+  pub but_start : (n m : ℕ) (s : Search) → TakesBut n n (0 * m) s s
+  but_start n m s = record { paid = omega arith }
 
-  pub but_next : (all rest less n : ℕ) (s t u : Search) → n + less ≤ rest → TakesBut all rest s t → Spends w n t u → TakesBut all less s u
-  but_next all rest less n s t u le p q = record { paid = omega (arith, le, p.paid, q.paid) }
+  -- one more is asked about, and then compared
+  pub but_next : (all rest less n k m : ℕ) (s t u v : Search) → n + less ≤ rest → TakesBut all rest (k * m) s t → AsksUpto m t u → Spends w n u v
+      → TakesBut all less ((k + 1) * m) s v
+  but_next all rest less n k m s t u v le p a q = record { paid = omega (arith, le, p.paid, (asks_take m t u a).paid, q.paid) }
 
-  pub but_end : (all rest m : ℕ) (s t u : Search) → TakesBut all rest s t → AsksUpto m t u → Takes w (8 * all + m) s u
-  but_end all rest m s t u p a = record { paid = omega (arith, p.paid, (asks_take m t u a).paid) }
+  pub but_end : (all rest k m : ℕ) (s t : Search) → k ≤ m → TakesBut all rest (k * m) s t → Takes w (8 * all + m * m) s t
+  but_end all rest k m s t le p = record { paid = omega (arith, p.paid, mul-le k m m m le (omega arith)) }
 
   pub spends_then : (m n : ℕ) (s t u : Search) → Spends w m s t → Spends w n t u → Spends w (m + n) s u
   spends_then m n s t u p q = record { paid = omega (arith, p.paid, q.paid) }
@@ -198,7 +206,7 @@ module _ (w : World) where
 pub slice_within : {X : Type 0} (f : X → ℕ) (xs : List X) (i j n : ℕ) → sum_by f (take j (take n (drop i xs))) ≤ sum_by f xs
 slice_within f xs i j n = omega (arith, sum_by-take-le f (take n (drop i xs)) j, sum_by-take-le f (drop i xs) n, sum_by-take-drop f xs i)
 
--- what was compared when the search ends, with what was asked before
-pub all_compared : (w : World) (inner : List InnerSet) (order : List ℕ) (n : ℕ) (s t : Search) → s.judged ≡ 0 → Spends w (sum_by (set_cost w inner) order) s t
-    → n ≤ 64 * own_count w → t.judged + n ≤ 8 * search_cost w inner order
-all_compared w inner order n s t none p few = omega (arith, p.paid, none, few, credit_most w t)
+-- what was compared when the search ends, with what was asked before it began
+pub all_compared : (w : World) (inner : List InnerSet) (order : List ℕ) (r s t : Search) → r.judged ≡ 0 → AsksUpto (64 * own_count w) r s
+    → Spends w (sum_by (set_cost w inner) order) s t → t.judged ≤ 8 * search_cost w inner order
+all_compared w inner order r s t none asked p = omega (arith, p.paid, none, asked.judged, credit_most w t)

@@ -14,12 +14,12 @@ ghost use Rattle.merge_search.specs.Weight.{field_weight, fields_weight};
 ghost use Rattle.merge_tops.specs.TopCosts.{later_cost};
 ghost use Rattle.merge_tops.specs.Tops.{AllBefore, AtBefore};
 
-use crate::asking::{ask_agreeing, ask_below, ask_kinds, ask_passed, square};
+use crate::asking::{ask_agreeing, ask_below, ask_kinds, ask_later, ask_passed};
 use bit_matrix::set::BitSet;
-use merge_certificates::below::{Below, others_from};
+use merge_certificates::below::Below;
 use merge_certificates::failing::Numbered;
 use merge_search::search::compare_fields;
-use merge_search::state::{Search, count_fields, is_full};
+use merge_search::state::{Search, is_full};
 use merge_sets::graph::Graph;
 use merge_sets::judge::Judge;
 use merge_sets::node::Entry;
@@ -124,22 +124,9 @@ fn compare_known<J: Judge>(
     ensures takes { let w = world J.judgement graph.now in let n = length fields.now in
         OnOk result (Takes w (8 * later_cost w fields.now + n * n) search.old search.new) }
 {
-    let most = square(fields);
-    let mut budget = most;
     for k in 0..fields.len() {
         let is_clear = clear.contains(k);
-        let others = others_from(
-            search.alloc,
-            graph,
-            false,
-            fields,
-            k,
-            k + 1,
-            is_clear,
-            below,
-            kinds,
-            &mut budget,
-        )?;
+        let others = ask_later(graph, fields, k, is_clear, below, kinds, search)?;
         compare_others(
             graph,
             fields[k],
@@ -150,7 +137,6 @@ fn compare_known<J: Judge>(
             search,
         )?;
     }
-    count_fields(search, most - budget);
     Ok(())
 }
 

@@ -23,7 +23,7 @@ use crate::pairs::compare_each;
 use crate::passing::{note_merged, note_plain, pass_over};
 use bit_matrix::set::BitSet;
 use merge_search::search::{compare_fragments, compare_own};
-use merge_search::state::{Search, count_fields, is_full, no_search, put_opening};
+use merge_search::state::{Search, is_full, no_search, put_opening};
 use merge_sets::graph::Graph;
 use merge_sets::judge::Judge;
 use merge_sets::plain::is_plain;
@@ -350,13 +350,12 @@ pub fn search_all<J: Judge>(alloc: Global, graph: &Graph<J>) -> Result<Search, A
     ensures compares { let w = world J.judgement graph.now in
         IfOk result (λ m. m.judged ≤ 8 * search_cost w graph.now.inner.items graph.now.order.items) }
 {
-    let (plain, asked) = ask_plain(alloc, graph)?;
     let mut search = no_search(alloc);
+    let plain = ask_plain(graph, &mut search)?;
     let mut counts = no_counts();
     for s in order(graph) {
         search_set(graph, *s, &plain, &mut search, &mut counts)?;
     }
-    count_fields(&mut search, asked);
     add_counts(&mut search, &counts);
     Ok(search)
 }

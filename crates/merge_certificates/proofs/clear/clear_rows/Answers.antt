@@ -10,4 +10,4 @@ returns-then-branch-clause-rows g c =
 pub returns-clause-rows : goal.returns-clause-rows
 returns-clause-rows g c =
     let v = world g.J.Judge.judgement c.args.graph.now in
-    both_clear v c.args.e c.args.left.now c.args.right.now c.in_ok-rows.rows c.in_ok-below.below c.in_ok-both.both c.in_ok-rows.ensures.rows c.in_ok-below.ensures.rows c.in_ok-both.ensures
+    both_clear v c.args.e c.args.left.now c.args.right.now c.in_ok-rows.rows c.in_ok-below.below c.in_ok-both.both c.in_ok-rows.ensures.rows c.in_ok-below.ensures.rows c.in_ok-both.ensures.both

@@ -5,4 +5,5 @@ use Rattle.merge_certificates.proofs.clear.rows_of_both.Given as goal
 
 abbrev pub invariant-loop-k : goal.invariant-loop-k
 invariant-loop-k l =
-    (k : ℕ) (a : Entry) → slice_get l.fields k ≡ Some a → has l.both k ≡ true → (has l.rows k ≡ true) × ((a.below ≡ None) ⊎ (has l.below k ≡ true))
+    ((k : ℕ) (a : Entry) → slice_get l.fields k ≡ Some a → has l.both k ≡ true → (has l.rows k ≡ true) × ((a.below ≡ None) ⊎ (has l.below k ≡ true)))
+    × ((k : ℕ) → has l.both k ≡ true → has l.rows k ≡ true)

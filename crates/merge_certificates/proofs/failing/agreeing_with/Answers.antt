@@ -1,4 +1,4 @@
-use Rattle.std.proofs.Common.{◌≡◌, None, Some, get_or, length, refl, slice_get, subst}
+use Rattle.std.proofs.Common.{◌≡◌, None, Some, ap, arith, get_or, inl, inr, length, refl, slice_get, subst}
 use Rattle.std.proofs.lemmas.Option.{slice_get_read}
 use Rattle.merge_certificates.proofs.KindNumbers.{kinds_agree}
 use Rattle.merge_certificates.specs.Failing.{AgreeKinds}
@@ -17,3 +17,11 @@ returns-clause-agree g c stand =
     let at : slice_get kinds i ≡ Some one = subst (λ zs. slice_get zs i ≡ Some one) c.deref.ensures.value (slice_get_read c.deref.result.now (length c.deref.result.now) i one refl look.3.0 look.1) in
     kinds_agree j e c.args.fields.now numbers kinds c.args.k i one c.in_ok-set.set
     stand told at (subst (λ zs. AgreeKinds j e one zs c.in_ok-set.set) c.as_slice-2.ensures.value c.in_ok-set.ensures.agree)
+
+pub returns-clause-ticks : goal.returns-clause-ticks
+returns-clause-ticks g c =
+    let look = c.in-Some-get.ensures.lookup in
+    elim c.in_ok-set.ensures.asks [
+      | inl asked ↦ inr (omega (arith, asked, look.1, look.3.0, ap length c.deref.ensures.value, ap length c.as_slice-2.ensures.value))
+      | inr untold ↦ inl untold.0
+    ]

@@ -27,6 +27,6 @@ loop-rest-preserved g c =
       λ m covers all.
           let z = step m covers all in
           c.loop-rest.invariant.1 m (λ n h. covers n (told.kept n h)) (quiet_popped v m rest c.loop-rest.waiting.items next c.in-Some.ensures.items z.0 (sets_merged v m x next.sets.items own hold z.1)),
-      omega (arith, c.loop-rest.invariant.2, c.is_quiet_set.ensures.spent),
+      omega (arith, c.loop-rest.invariant.2, c.is_quiet_set.ensures.spent, c.loop-rest-test.true),
       c.loop-rest.invariant.3,
     )

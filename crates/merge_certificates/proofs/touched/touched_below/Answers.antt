@@ -1,10 +1,10 @@
-use Rattle.std.proofs.Common.{Bool, ℕ, subst}
+use Rattle.std.proofs.Common.{◌<◌, Bool, ℕ, arith, subst}
 use Rattle.std.specs.Bool.{OnTrue}
 use Rattle.std.proofs.lemmas.Result.{IfOk-weaker}
 use Rattle.bit_matrix.specs.Set.{has}
 use Rattle.merge_certificates.specs.Quiet.{AllQuietBut, Covers}
 use Rattle.merge_sets.specs.World.{world}
-use Rattle.merge_certificates.proofs.Touching.{apart_below, none_at}
+use Rattle.merge_certificates.proofs.Touching.{apart_below, none_at, none_told}
 use Rattle.merge_certificates.proofs.touched.touched_below.Goals as goal
 
 pub returns-clause-knows : goal.returns-clause-knows
@@ -20,3 +20,11 @@ returns-clause-knows g c =
 
 pub returns-then-not-is_known-clause-knows : goal.returns-then-not-is_known-clause-knows
 returns-then-not-is_known-clause-knows g c = λ k l a b at. absurd (none_at c.none_touched.result c.none_touched.ensures k l at)
+
+pub returns-clause-ticks : goal.returns-clause-ticks
+returns-clause-ticks g c =
+    let asked = subst (λ b. OnTrue b (c.are_quiet_but.new.budget < c.args.budget.now)) c.if-not-is_known.false c.in_ok-is_known.ensures.ticks in
+    IfOk-weaker c.names_below_each.result _ _ (λ t are told. omega (arith, asked, c.names_below_each.ensures.spent)) c.names_below_each.ensures.touched
+
+pub returns-then-not-is_known-clause-ticks : goal.returns-then-not-is_known-clause-ticks
+returns-then-not-is_known-clause-ticks g c told = absurd (none_told c.none_touched.result c.none_touched.ensures told)

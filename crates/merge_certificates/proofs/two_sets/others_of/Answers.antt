@@ -1,4 +1,4 @@
-use Rattle.std.proofs.Common.{◌≡◌, ◌≤◌, ℕ, Some, drop, get_or, length, rules, slice_get, subst, sym}
+use Rattle.std.proofs.Common.{◌≡◌, ◌<◌, ◌≤◌, ℕ, Some, drop, get_or, length, refl, rules, slice_get, subst, sym}
 use Rattle.std.specs.List.{Contains}
 use Rattle.std.proofs.lemmas.List.Elements.{All-weaker, Contains-get_or}
 use Rattle.merge_sets.specs.declared.node.Entry.{Entry}
@@ -36,3 +36,11 @@ returns-clause-once g c =
     let same : c.len.result ≡ length rows.left.items = search rules in
     subst (λ xs. IsSumWithin c.in_ok-others.others.items (drop (length rows.left.items) xs)) c.as_slice.ensures.value
     (subst (λ (n : ℕ). IsSumWithin c.in_ok-others.others.items (drop n c.as_slice.result.now)) same c.in_ok-others.ensures.once)
+
+pub returns-clause-ticks : goal.returns-clause-ticks
+returns-clause-ticks g c unclear less =
+    let rows = c.args.rows.now in
+    let same : c.len.result ≡ length rows.left.items = search rules in
+    c.in_ok-others.ensures.ticks refl
+    (subst (λ xs. length c.in_ok-others.others.items < length (drop c.len.result xs)) (sym c.as_slice.ensures.value)
+    (subst (λ (n : ℕ). length c.in_ok-others.others.items < length (drop n rows.fields.items)) (sym same) less))

@@ -1,7 +1,7 @@
-use Rattle.std.proofs.Common.{◌≡◌, ◌++◌, ap, length, subst, sym, ◌∙◌}
+use Rattle.std.proofs.Common.{◌≡◌, ◌++◌, ap, arith, inl, inr, length, subst, sym, ◌∙◌}
 use Rattle.std.proofs.lemmas.List.Prefix.{front_rest}
 use Rattle.merge_certificates.specs.Below.{IsIndexed, KnowsBelow}
-use Rattle.merge_sets.specs.Clear.{AreClearRows}
+use Rattle.merge_sets.specs.Clear.{AreClearRows, AreLeaves}
 use Rattle.merge_certificates.specs.Failing.{StandFor}
 use Rattle.merge_sets.specs.World.{world}
 use Rattle.merge_certificates.proofs.ClearLists.{begin_with}
@@ -26,3 +26,12 @@ returns-clause-knows g c =
         kinds = subst (λ xs. StandFor v.judgement c.in_ok-numbered.numbered.kinds.items xs c.in_ok-numbered.numbered.numbers.items) c.as_slice-2.ensures.value c.in_ok-numbered.ensures.stand;
       };
     }
+
+pub returns-clause-below : goal.returns-clause-below
+returns-clause-below g c knows = elim (c.in_ok-below.ensures.ticks knows) [
+  | inl leaves ↦ inl (subst (λ zs. AreLeaves zs) c.as_slice.ensures.value leaves)
+  | inr moved ↦ inr (omega (arith, moved, c.numbered_kinds.ensures.spent))
+]
+
+pub returns-clause-kinds : goal.returns-clause-kinds
+returns-clause-kinds g c told = omega (arith, c.in_ok-numbered.ensures.ticks told, c.known_below.ensures.spent)

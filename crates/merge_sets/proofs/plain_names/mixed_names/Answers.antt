@@ -1,4 +1,4 @@
-use Rattle.std.proofs.Common.{ap, subst}
+use Rattle.std.proofs.Common.{ap, arith, subst}
 use Rattle.std.specs.List.{All}
 use Rattle.merge_sets.specs.declared.node.Entry.{Entry}
 use Rattle.merge_sets.specs.World.{world}
@@ -13,3 +13,6 @@ returns-clause-names g c =
     let same = ap (λ v. v.items) c.in_ok-set.ensures.own in
     let told = subst (λ xs. All (λ (a : Entry). IsToldOf w.judgement xs c.in_ok-mixed.mixed a.response) xs) same c.in_ok-mixed.ensures.told in
     names_plain w c.in_ok-unlike.unlike c.in_ok-mixed.mixed own c.in_ok-unlike.ensures.names c.in_ok-fields.ensures told
+
+pub returns-clause-ticks : goal.returns-clause-ticks
+returns-clause-ticks g c s own some = omega (arith, c.in_ok-unlike.ensures.ticks s own some, c.marked_names.ensures.spent)

@@ -1,4 +1,4 @@
-use Rattle.std.proofs.Common.{inl, inr, arith, below_more}
+use Rattle.std.proofs.Common.{◌<◌, length, inl, inr, arith, below_more}
 use Rattle.std.proofs.lemmas.Bool.{cases_lt}
 use Rattle.std.specs.List.{Contains}
 use Rattle.merge_sets.specs.declared.node.Entry.{Entry}
@@ -16,6 +16,12 @@ loop-s-preserved g c =
       below_more (λ i. (a : Entry) → Contains (own_of w i) a → IsNoted alike c.note_own.new.seen a) c.loop-s.s
           (λ i l a p. notes.kept a (c.loop-s.invariant.0 i l a p)) (λ a p. notes.noted a p),
       omega (arith, c.loop-s.invariant.1, c.note_own.ensures.spent),
+      below_more (λ i. 0 < length (own_of w i) → 0 < c.args.budget.now → c.note_own.new.budget < c.args.budget.now) c.loop-s.s
+          (λ i l own some. omega (arith, c.loop-s.invariant.2 i l own some, c.note_own.ensures.spent))
+          (λ own some. elim (cases_lt 0 c.loop-s.budget) [
+            | inl left ↦ omega (arith, c.loop-s.invariant.1, c.in_ok-note_own.ensures.ticks own left)
+            | inr none ↦ omega (arith, none, some, c.note_own.ensures.spent)
+          ]),
     )
 
 pub returns-clause-names : goal.returns-clause-names
@@ -28,3 +34,11 @@ returns-clause-names g c =
       | inl l ↦ c.loop-s.invariant.0 p.0 l a p.1
       | inr past ↦ absurd (omega (arith, p.1.1, no_own w p.0 (omega (arith, past, n, c.loop-s-test.false))))
     ]) name clean
+
+pub returns-clause-ticks : goal.returns-clause-ticks
+returns-clause-ticks g c s own some = elim (cases_lt s c.loop-s.s) [
+  | inl l ↦ c.loop-s.invariant.2 s l own some
+  | inr past ↦
+      let none = no_own (world g.J.Judge.judgement c.args.graph.now) s (omega (arith, past, c.len-s-end.ensures, c.loop-s-test.false)) in
+      absurd (omega (arith, own, none))
+]

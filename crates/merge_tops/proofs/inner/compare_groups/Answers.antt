@@ -19,7 +19,7 @@ use Rattle.merge_tops.proofs.inner.compare_groups.Goals as goal
 pub loop-a-init : goal.loop-a-init
 loop-a-init g c =
     let v = world g.J.Judge.judgement c.args.graph.now in
-    let asked = c.in_ok-ask_groups.ensures in
+    let asked = c.in_ok-ask_groups.ensures.counts in
     let at : List Finding → Type 0 = λ zs. Adds v false (AtLists c.args.left.now c.args.right.now) zs c.ask_groups.new.search.found.items in (
       did_before v false _ asked.keeps (did_none v _ c.ask_groups.new.search (λ M k. tt)),
       subst at asked.keeps.found (adds_none v false (AtLists c.args.left.now c.args.right.now) _),
@@ -54,7 +54,7 @@ returns-then-branch g c =
     let v = world g.J.Judge.judgement c.args.graph.now in
     let left = c.args.left.now in
     let right = c.args.right.now in
-    let asked = c.in_ok-ask_groups.ensures in
+    let asked = c.in_ok-ask_groups.ensures.counts in
     record {
       done = did_before v false _ asked.keeps (did_none v _ c.ask_groups.new.search (λ M k. tt));
       real = subst (λ zs. Adds v false (AtLists left right) zs c.ask_groups.new.search.found.items) asked.keeps.found (adds_none v false (AtLists left right) _);

@@ -1,12 +1,12 @@
-use Rattle.std.proofs.Common.{◌≤◌, ◌+◌, ◌-◌, ◌*◌, ◌^◌, ◌<◌, ◌∙◌, [], ℕ, ap, length, get_or, min, sym, subst, arith, false}
+use Rattle.std.proofs.Common.{◌≤◌, ◌-◌, ◌*◌, ◌^◌, ◌<◌, [], ℕ, ap, length, get_or, sym, subst, arith, false}
 use Rattle.std.proofs.lemmas.List.Elements.{Contains-get_or}
 use Rattle.merge_sets.specs.World.{HasRoom, world}
-use Rattle.merge_search.specs.Counts.{all_spreads, greatest}
+use Rattle.merge_search.specs.Counts.{all_spreads}
 use Rattle.merge_search.specs.Reports.{AddsAll, AtSearched, Judged}
 use Rattle.merge_tops.specs.Tops.{AtTop, Together}
 use Rattle.merge_search.proofs.Adding.{Upto, all_start, all_more}
 use Rattle.merge_tops.proofs.Counting.{at_most, at_least, small_square}
-use Rattle.merge_tops.proofs.Judging.{next_tops, no_tops, judged_at, all_tops}
+use Rattle.merge_tops.proofs.Judging.{begins_asked, next_tops, no_tops, judged_at, all_tops}
 use Rattle.merge_search.proofs.Tallying.{no_tally}
 use Rattle.merge_search.proofs.Work.{grows_same}
 use Rattle.merge_tops.specs.TopCosts.{search_cost, set_cost}
@@ -18,12 +18,14 @@ use Rattle.merge_tops.proofs.top.search_all.Goals as goal
 pub loop-s-init : goal.loop-s-init
 loop-s-init g c =
     let v = world g.J.Judge.judgement c.args.graph.now in
-    let b = c.no_search-search.ensures in (
+    let asked = c.in_ok-plain.ensures.counts.keeps in
+    let s = c.ask_plain.new.search in
+    let b = begins_asked 0 c.no_search-search.result s c.no_search-search.ensures asked in (
       c.order-s-items.ensures,
-      no_tops v c.order-s-items.result.now c.no_search-search.result b,
+      no_tops v c.order-s-items.result.now s.judged s b,
       subst (λ ys. AddsAll v false (AtSearched v c.order-s-items.result.now) (Upto c.order-s-items.result.now 0 0 (λ s. AtTop v s)) [] ys) (sym b.found) (all_start v false _ (λ s. AtTop v s) c.order-s-items.result.now 0 []),
-      no_tally v c.no_search-search.result b,
-      spends_start v (set_cost v c.args.graph.now.inner.items) c.order-s-items.result.now 0 c.no_search-search.result,
+      no_tally v s.judged s b,
+      spends_start v (set_cost v c.args.graph.now.inner.items) c.order-s-items.result.now 0 s,
       opens_start v (set_lists c.args.graph.now.inner.items) c.order-s-items.result.now 0 c.no_counts-counts.result,
     )
 
@@ -42,18 +44,16 @@ pub returns : goal.returns
 returns g c =
     let v = world g.J.Judge.judgement c.args.graph.now in
     let s = c.loop-s.search in
-    let t = c.count_fields.new.search in
     let m = c.add_counts.new.search in
     let inner = c.args.graph.now.inner.items in
     let order = c.order-s-items.result.now in
     let n : length v.fragments < 2 ^ 63 = omega (arith, c.args.graph.now.fragments.ok.0, c.args.graph.now.fragments.ok.1, c.args.graph.now.fragments.small) in
-    let keeps = c.count_fields.ensures.keeps in
     let added = c.add_counts.ensures in
-    let found = ap (λ f. f.items) added.found ∙ keeps.found in
-    let compared = added.compared ∙ keeps.compared in
-    let lists = added.lists ∙ ap (λ (k : ℕ). min (k + c.loop-s.counts.lists) greatest) keeps.lists in
-    let opened = added.opened ∙ ap (λ (k : ℕ). min (k + c.loop-s.counts.opened) greatest) keeps.opened in
-    let looked = added.looked ∙ ap (λ (k : ℕ). min (k + c.loop-s.counts.looked) greatest) keeps.looked in
+    let found = ap (λ f. f.items) added.found in
+    let compared = added.compared in
+    let lists = added.lists in
+    let opened = added.opened in
+    let looked = added.looked in
     let none = c.no_counts-counts.ensures in
     let tops = opens_list v (set_lists inner) order 0 c.loop-s.s-index (top_lists inner order) _ _ c.loop-s-test.false (omega arith) c.loop-s.invariant.5 in
     record {
@@ -71,8 +71,7 @@ returns g c =
       compares = subst (λ zs. m.judged ≤ 8 * search_cost v inner zs) c.loop-s.invariant.0 (omega (
         arith,
         added.judged,
-        c.count_fields.ensures.judged,
-        all_compared v inner order c.in_ok-plain.asked c.no_search-search.result s c.no_search-search.ensures.judged
-            (spends_list v (set_cost v inner) order 0 c.loop-s.s-index _ _ _ c.loop-s-test.false (omega arith) c.loop-s.invariant.4) c.in_ok-plain.ensures.counts,
+        all_compared v inner order c.no_search-search.result c.ask_plain.new.search s c.no_search-search.ensures.judged c.in_ok-plain.ensures.counts
+            (spends_list v (set_cost v inner) order 0 c.loop-s.s-index _ _ _ c.loop-s-test.false (omega arith) c.loop-s.invariant.4),
       ));
     }
