@@ -5,6 +5,7 @@ pub mod Members
 pub mod PrintLeft
 pub mod PrintLemmas
 pub mod Separated
+pub mod Steps
 pub mod ValueInduction
 pub mod ValueLaws
 pub mod ValueLemmas

@@ -591,14 +591,14 @@ fn compare_items<'v, S: ScalarValue>(
     ensures { IfOk result (λ c. answer_after S.eq waiting.new.items (answer_of S.eq c)
         ≡ answer_after S.eq waiting.old.items (pointwise (λ x y. unlocated_eq S.eq x.item y.item) left.now right.now)) }
 {
-    match (left.split_first(), right.split_first()) {
-        (Some((x, xs)), Some((y, ys))) => {
-            waiting.push(Pending::And(Comparison::Items(xs, ys)))?;
-            Ok(Comparison::Values(&x.item, &y.item))
-        }
-        (None, None) => Ok(Comparison::Answer(true)),
-        _ => Ok(Comparison::Answer(false)),
-    }
+    let Some((x, xs)) = left.split_first() else {
+        return Ok(Comparison::Answer(right.is_empty()));
+    };
+    let Some((y, ys)) = right.split_first() else {
+        return Ok(Comparison::Answer(false));
+    };
+    waiting.push(Pending::And(Comparison::Items(xs, ys)))?;
+    Ok(Comparison::Values(&x.item, &y.item))
 }
 
 fn compare_entries<'v, S: ScalarValue>(
