@@ -47,6 +47,16 @@ pub IsMapOfObject-at : {S : Type 0} (w : InputValue S) (es : Vec (Entry (InputVa
 IsMapOfObject-at w es items m at same h = subst (λ o. IsMapOfObject (Some m) o) (sym (ap object_entries at ∙ object_entries-Object es)) (subst (λ xs. IsMapOf m xs) same h)
 
 module _ {S : Type 0} (E : S → S → Bool) where
+  -- the tests of members as they are compared
+  abbrev pub same_items : Spanning (InputValue S) Span → Spanning (InputValue S) Span → Bool
+  same_items x y = unlocated_eq E x.item y.item
+
+  abbrev pub is_entry : List ℕ → InputValue S → Entry (InputValue S) → Bool
+  is_entry key value e = pointwise nat_eq (string_bytes e.0.item) key && unlocated_eq E value e.1.item
+
+  abbrev pub is_found : List (Entry (InputValue S)) → Entry (InputValue S) → Bool
+  is_found ys x = entry_in (unlocated_eq E x.1.item) (string_bytes x.0.item) ys
+
   abbrev pub inside : Spanning (InputValue S) Span → Spanning (InputValue S → Bool) Span
   inside x = record { item = unlocated_eq E x.item; span = x.span }
 
