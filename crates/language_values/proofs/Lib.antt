@@ -1,3 +1,4 @@
+pub mod AnswerAfter
 pub mod ConstantLemmas
 pub mod InsideLaws
 pub mod LastValue

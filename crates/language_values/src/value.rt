@@ -349,7 +349,6 @@ enum Rest<'v, S> {
 
 impl<'v, S> Rest<'v, S> {
     // The first value, and what is left after it.
-    #[tactic(auto, using(crate::proofs::VariablesWaiting::split_items, crate::proofs::VariablesWaiting::split_entries, crate::proofs::VariablesWaiting::split_items_inside, crate::proofs::VariablesWaiting::split_entries_inside))]
     fn split_first(self) -> Option<(&'v InputValue<S>, Rest<'v, S>)>
         ensures some { IfSome result (λ p. variables_left self.entry ≡ variables_of p.0.now ++ variables_left p.1) }
         ensures less { IfSome result (λ p. values_left self.entry ≡ values_inside p.0.now + values_left p.1) }
