@@ -14,7 +14,7 @@ use Rattle.language_values.specs.declared.value.InputValue.{InputValue, fold-rol
 use Rattle.language_values.specs.declared.value.InputValue.TheVariants as v
 use Rattle.language_values.specs.declared.value.InputValue.TheOpen.{InputValue-F}
 pub use Rattle.language_values.specs.SameLaws.{pointwise-map_left}
-use Rattle.language_values.specs.Values.{Entry, variables_step, entries_layer, variables_of, variables_of_all, variables_of_object, object_entries, IsMapOf, IsMapOfObject}
+use Rattle.language_values.specs.Values.{Entry, variables_step, entries_layer, variables_of, variables_of_all, variables_of_object, is_plain, object_entries, IsMapOf, IsMapOfObject}
 
 pub variables_of-List : {S : Type 0} (xs : Vec (Spanning (InputValue S) Span) Global) → variables_of (v.List xs) ≡ variables_of_all xs.items
 variables_of-List {S} xs =
@@ -45,6 +45,13 @@ object_entries-Object {S} es = ap object_entries (sym (v.rolls-Object es)) ∙ a
 -- an object's map is of its entries
 pub IsMapOfObject-at : {S : Type 0} (w : InputValue S) (es : Vec (Entry (InputValue S)) Global) (items : List (Entry (InputValue S))) (m : BTreeMap (Bor (List ℕ)) (Bor (InputValue S))) → w ≡ v.Object es → items ≡ es.items → IsMapOf m items → IsMapOfObject (Some m) (object_entries w)
 IsMapOfObject-at w es items m at same h = subst (λ o. IsMapOfObject (Some m) o) (sym (ap object_entries at ∙ object_entries-Object es)) (subst (λ xs. IsMapOf m xs) same h)
+
+-- the tests of members for plain values
+abbrev pub is_plain_item : {S : Type 0} → Spanning (InputValue S) Span → Bool
+is_plain_item v = is_plain v.item
+
+abbrev pub is_plain_entry : {S : Type 0} → Entry (InputValue S) → Bool
+is_plain_entry e = is_plain e.1.item
 
 module _ {S : Type 0} (E : S → S → Bool) where
   -- the tests of members as they are compared
