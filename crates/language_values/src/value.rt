@@ -134,18 +134,14 @@ impl<S: Drop> InputValue<S> {
         ensures bare { IfErr result (λ _. IsBare self.new) }
     {
         match self {
-            InputValue::List(items) => {
-                if items.is_empty() {
-                    return Err(value);
-                }
-                Ok(mem::replace(&mut items[0].item, value))
-            }
-            InputValue::Object(entries) => {
-                if entries.is_empty() {
-                    return Err(value);
-                }
-                Ok(mem::replace(&mut entries[0].1.item, value))
-            }
+            InputValue::List(items) => match items.first_mut() {
+                Some(first) => Ok(mem::replace(&mut first.item, value)),
+                None => Err(value),
+            },
+            InputValue::Object(entries) => match entries.first_mut() {
+                Some(first) => Ok(mem::replace(&mut first.1.item, value)),
+                None => Err(value),
+            },
             _ => Err(value),
         }
     }
