@@ -60,7 +60,15 @@ shuffled true false true = refl
 shuffled true false false = refl
 shuffled false r f = sym (and_right_false (f && r) false refl)
 
+turned : (a b : Bool) → (a && (b && true)) ≡ (b && a)
+turned true true = refl
+turned true false = refl
+turned false b = sym (and_right_false b false refl)
+
 module _ {A : Type 0} (test : A → Bool) where
+  pub all_last : (xs ys : List A) (x : A) → xs ≡ ys ++ x ∷ [] → list_all test xs ≡ (test x && list_all test ys)
+  all_last xs ys x e = ap (list_all test) e ∙ list_all-append test ys (x ∷ []) ∙ turned (list_all test ys) (test x)
+
   -- two more at the end
   pub all_put : (old mid new : List A) (a b : A) (first rest : Bool) → mid ≡ old ++ a ∷ [] → new ≡ mid ++ b ∷ [] → test a ≡ rest → test b ≡ first
       → list_all test new ≡ ((first && rest) && list_all test old)

@@ -624,11 +624,11 @@ fn compare_candidates<'v, S: ScalarValue>(
     let Some(((k, v), others)) = entries.split_first() else {
         return Ok(Comparison::Answer(false));
     };
-    if k.item.as_str() != key {
-        return Ok(Comparison::Candidates(key, value, others));
+    if k.item.as_str() == key {
+        waiting.push(Pending::Or(Comparison::Candidates(key, value, others)))?;
+        return Ok(Comparison::Values(value, &v.item));
     }
-    waiting.push(Pending::Or(Comparison::Candidates(key, value, others)))?;
-    Ok(Comparison::Values(value, &v.item))
+    Ok(Comparison::Candidates(key, value, others))
 }
 
 #[cycle(values_eq)]

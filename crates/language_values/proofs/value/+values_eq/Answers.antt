@@ -56,7 +56,7 @@ pub has_entry-loop-k-preserved : goal.has_entry-loop-k-preserved
 has_entry-loop-k-preserved g t c =
     let key_is : pointwise nat_eq (string_bytes c.loop-k-item.result.0.item) c.args.key.now ≡ c.eq.result = ap (λ k. pointwise nat_eq k c.args.key.now) (sym c.as_str.ensures.value) ∙ sym c.eq.ensures in
     let other : is_entry g.S.PartialEq.eq c.args.key.now c.args.value.now c.loop-k-item.result ≡ false = elim c.else-eq.branch [
-      has_entry-else-eq-via-then-eq+else-values_eq w ↦ and_right_false _ _ (sym w.values_eq.ensures ∙ w.if-values_eq.false)
+      | has_entry-else-eq-via-then-eq+else-values_eq w ↦ and_right_false _ _ (sym w.values_eq.ensures ∙ w.if-values_eq.false)
       | has_entry-else-eq-via-else-eq w ↦ and_left_false _ _ (key_is ∙ w.if-eq.false)
     ] in
     c.loop-k.invariant ∙ any_at (is_entry g.S.PartialEq.eq c.args.key.now c.args.value.now) c.args.entries.now c.loop-k.k-index c.loop-k-item.result false c.loop-k-test.true c.loop-k-item.is other
