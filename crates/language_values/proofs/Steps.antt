@@ -1,5 +1,6 @@
 -- What a test comes to over lists, one place further.
-use Rattle.std.proofs.Common.{◌≡◌, ℕ, suc, ◌+◌, ◌<◌, ◌≤◌, List, [], ◌∷◌, ◌++◌, length, drop, get_or, Bool, true, false, ◌&&◌, ◌||◌, refl, sym, ap, ◌∙◌, arith}
+use Rattle.std.proofs.Common.{◌≡◌, ℕ, suc, ◌+◌, ◌<◌, ◌≤◌, List, [], ◌∷◌, ◌++◌, length, drop, get_or, Bool, true, false, ◌&&◌, ◌||◌, refl}
+use Rattle.std.proofs.Common.{sym, ap, ◌∙◌, arith}
 use Rattle.std.specs.List.{list_any, list_all}
 use Rattle.std.specs.Cmp.Lexicographic.{pointwise}
 use Rattle.std.specs.Bool.{◌==◌}
@@ -22,7 +23,8 @@ nat_eq-suc : (n : ℕ) → (suc n == 0) ≡ false
 nat_eq-suc n = grind (arith, nat_tests)
 
 module _ {A B : Type 0} (T : A → B → Bool) where
-  pub pairs_at : (xs : List A) (ys : List B) (i : ℕ) (x : A) (y : B) (b : Bool) → i < length xs → length xs ≡ length ys → x ≡ get_or xs i x → y ≡ get_or ys i y
+  pub pairs_at : (xs : List A) (ys : List B) (i : ℕ) (x : A) (y : B) (b : Bool) → i < length xs → length xs ≡ length ys
+      → x ≡ get_or xs i x → y ≡ get_or ys i y
       → T x y ≡ b → pointwise T (drop i xs) (drop i ys) ≡ (b && pointwise T (drop (i + 1) xs) (drop (i + 1) ys))
   pairs_at xs ys i x y b here as_long is also test =
       ap (λ zs. pointwise T zs (drop i ys)) (from xs i x here is)
@@ -42,8 +44,10 @@ module _ {A B : Type 0} (T : A → B → Bool) where
       and_right_false (T x y) (pointwise T xs ys) (pairs_of_lengths xs ys (λ e. differ (omega (arith, e))))
 
   -- both lists by their first members
-  pub pairs_first : (xs xs' : List A) (ys ys' : List B) (x : A) (y : B) (b : Bool) → xs ≡ x ∷ xs' → ys ≡ y ∷ ys' → T x y ≡ b → pointwise T xs ys ≡ (b && pointwise T xs' ys')
-  pairs_first xs xs' ys ys' x y b p q test = ap (λ zs. pointwise T zs ys) p ∙ ap (pointwise T (x ∷ xs')) q ∙ ap (λ c. c && pointwise T xs' ys') test
+  pub pairs_first : (xs xs' : List A) (ys ys' : List B) (x : A) (y : B) (b : Bool) → xs ≡ x ∷ xs' → ys ≡ y ∷ ys' → T x y ≡ b
+      → pointwise T xs ys ≡ (b && pointwise T xs' ys')
+  pairs_first xs xs' ys ys' x y b p q test = ap (λ zs. pointwise T zs ys) p ∙ ap (pointwise T (x ∷ xs')) q
+      ∙ ap (λ c. c && pointwise T xs' ys') test
 
   pub pairs_of_none : (xs : List A) (ys : List B) (b : Bool) → length xs ≡ 0 → b ≡ (length ys == 0) → b ≡ pointwise T xs ys
   pairs_of_none [] [] b none is = is
@@ -70,7 +74,8 @@ module _ {A : Type 0} (test : A → Bool) where
   all_last xs ys x e = ap (list_all test) e ∙ list_all-append test ys (x ∷ []) ∙ turned (list_all test ys) (test x)
 
   -- two more at the end
-  pub all_put : (old mid new : List A) (a b : A) (first rest : Bool) → mid ≡ old ++ a ∷ [] → new ≡ mid ++ b ∷ [] → test a ≡ rest → test b ≡ first
+  pub all_put : (old mid new : List A) (a b : A) (first rest : Bool) → mid ≡ old ++ a ∷ [] → new ≡ mid ++ b ∷ [] → test a ≡ rest
+      → test b ≡ first
       → list_all test new ≡ ((first && rest) && list_all test old)
   all_put old mid new a b first rest p q after before =
       ap (list_all test) (q ∙ ap (λ z. z ++ b ∷ []) p)
@@ -80,10 +85,12 @@ module _ {A : Type 0} (test : A → Bool) where
       ∙ ap (λ c. (list_all test old && (rest && true)) && (c && true)) before
       ∙ shuffled (list_all test old) rest first
 
-  pub all_at : (xs : List A) (i : ℕ) (x : A) (b : Bool) → i < length xs → x ≡ get_or xs i x → test x ≡ b → list_all test (drop i xs) ≡ (b && list_all test (drop (i + 1) xs))
+  pub all_at : (xs : List A) (i : ℕ) (x : A) (b : Bool) → i < length xs → x ≡ get_or xs i x → test x ≡ b
+      → list_all test (drop i xs) ≡ (b && list_all test (drop (i + 1) xs))
   all_at xs i x b here is e = ap (list_all test) (from xs i x here is) ∙ ap (λ c. c && list_all test (drop (i + 1) xs)) e
 
-  pub any_at : (xs : List A) (i : ℕ) (x : A) (b : Bool) → i < length xs → x ≡ get_or xs i x → test x ≡ b → list_any test (drop i xs) ≡ (b || list_any test (drop (i + 1) xs))
+  pub any_at : (xs : List A) (i : ℕ) (x : A) (b : Bool) → i < length xs → x ≡ get_or xs i x → test x ≡ b
+      → list_any test (drop i xs) ≡ (b || list_any test (drop (i + 1) xs))
   any_at xs i x b here is e = ap (list_any test) (from xs i x here is) ∙ ap (λ c. c || list_any test (drop (i + 1) xs)) e
 
   pub all_end : (xs : List A) (i : ℕ) → length xs ≤ i → list_all test (drop i xs) ≡ true

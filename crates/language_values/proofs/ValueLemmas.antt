@@ -14,7 +14,8 @@ use Rattle.language_values.specs.declared.value.InputValue.{InputValue, fold-rol
 use Rattle.language_values.specs.declared.value.InputValue.TheVariants as v
 use Rattle.language_values.specs.declared.value.InputValue.TheOpen.{InputValue-F}
 pub use Rattle.language_values.specs.SameLaws.{pointwise-map_left}
-use Rattle.language_values.specs.Values.{Entry, variables_step, entries_layer, variables_of, variables_of_all, variables_of_object, is_plain, object_entries, IsMapOf, IsMapOfObject}
+use Rattle.language_values.specs.Values.{Entry, variables_step, entries_layer, variables_of, variables_of_all, variables_of_object}
+use Rattle.language_values.specs.Values.{is_plain, object_entries, IsMapOf, IsMapOfObject}
 
 pub variables_of-List : {S : Type 0} (xs : Vec (Spanning (InputValue S) Span) Global) → variables_of (v.List xs) ≡ variables_of_all xs.items
 variables_of-List {S} xs =

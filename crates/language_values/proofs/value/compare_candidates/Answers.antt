@@ -14,16 +14,21 @@ returns-then-eq g k =
     let E = g.S.PartialEq.eq in
     let key = k.args.key.now in
     let here = unlocated_eq E k.args.value.now k.in-Some.field-0-0.now.1.item in
-    let key_is : pointwise nat_eq (string_bytes k.in-Some.field-0-0.now.0.item) key ≡ true = ap (λ t. pointwise nat_eq t key) (sym k.as_str.ensures.value) ∙ sym k.eq.ensures ∙ k.if-eq.true in
-    answer_after-push E k.args.waiting.now.items k.push.new.self.items (p.Or (c.Candidates k.args.key k.args.value k.in-Some.others)) here k.in_ok-push.ensures.items
+    let key_is : pointwise nat_eq (string_bytes k.in-Some.field-0-0.now.0.item) key ≡ true =
+    ap (λ t. pointwise nat_eq t key) (sym k.as_str.ensures.value) ∙ sym k.eq.ensures ∙ k.if-eq.true in
+    answer_after-push E k.args.waiting.now.items k.push.new.self.items (p.Or (c.Candidates k.args.key k.args.value k.in-Some.others)) here
+    k.in_ok-push.ensures.items
     ∙ ap (answer_after E k.args.waiting.now.items)
-    (sym (ap (list_any (is_entry E key k.args.value.now)) k.in-Some.ensures.cases.0 ∙ ap (λ b. (b && here) || list_any (is_entry E key k.args.value.now) k.in-Some.others.now) key_is))
+    (sym (ap (list_any (is_entry E key k.args.value.now)) k.in-Some.ensures.cases.0
+    ∙ ap (λ b. (b && here) || list_any (is_entry E key k.args.value.now) k.in-Some.others.now) key_is))
 
 pub returns : goal.returns
 returns g k =
     let E = g.S.PartialEq.eq in
     let key = k.args.key.now in
     let here = unlocated_eq E k.args.value.now k.in-Some.field-0-0.now.1.item in
-    let key_is : pointwise nat_eq (string_bytes k.in-Some.field-0-0.now.0.item) key ≡ false = ap (λ t. pointwise nat_eq t key) (sym k.as_str.ensures.value) ∙ sym k.eq.ensures ∙ k.if-eq.false in
+    let key_is : pointwise nat_eq (string_bytes k.in-Some.field-0-0.now.0.item) key ≡ false =
+    ap (λ t. pointwise nat_eq t key) (sym k.as_str.ensures.value) ∙ sym k.eq.ensures ∙ k.if-eq.false in
     ap (answer_after E k.args.waiting.now.items)
-    (sym (ap (list_any (is_entry E key k.args.value.now)) k.in-Some.ensures.cases.0 ∙ ap (λ b. (b && here) || list_any (is_entry E key k.args.value.now) k.in-Some.others.now) key_is))
+    (sym (ap (list_any (is_entry E key k.args.value.now)) k.in-Some.ensures.cases.0
+    ∙ ap (λ b. (b && here) || list_any (is_entry E key k.args.value.now) k.in-Some.others.now) key_is))

@@ -13,7 +13,8 @@ pub returns : goal.returns
 returns g k =
     let E = g.S.PartialEq.eq in
     let others = list_all (is_found E k.args.right.now) k.in-Some.others.now in
-    answer_after-push E k.args.waiting.now.items k.push.new.self.items (p.And (c.Entries k.in-Some.others k.args.right)) _ k.in_ok-push.ensures.items
+    answer_after-push E k.args.waiting.now.items k.push.new.self.items (p.And (c.Entries k.in-Some.others k.args.right)) _
+    k.in_ok-push.ensures.items
     ∙ ap (answer_after E k.args.waiting.now.items)
     (ap (λ key. entry_in (unlocated_eq E k.in-Some.field-0-0.now.1.item) key k.args.right.now && others) k.as_str.ensures.value
     ∙ sym (ap (list_all (is_found E k.args.right.now)) k.in-Some.ensures.cases.0))
@@ -21,4 +22,5 @@ returns g k =
 pub returns-in_default : goal.returns-in_default
 returns-in_default g k =
     let E = g.S.PartialEq.eq in
-    ap (answer_after E k.args.waiting.now.items) (sym (ap (list_all (is_found E k.args.right.now)) (nil_from_length k.args.left.now k.in_default.ensures.cases)))
+    ap (answer_after E k.args.waiting.now.items)
+    (sym (ap (list_all (is_found E k.args.right.now)) (nil_from_length k.args.left.now k.in_default.ensures.cases)))

@@ -11,12 +11,15 @@ returns-in-Entries g c =
 pub returns-in-Items : goal.returns-in-Items
 returns-in-Items g c =
     let E = g.S.PartialEq.eq in
-    subst (λ z. IfOk c.compare_items.result (λ d. answer_after E c.compare_items.new.waiting.items (answer_of E d) ≡ answer_after E c.args.waiting.now.items (answer_of E z))) (sym c.in-Items.is) c.compare_items.ensures
+    subst (λ z. IfOk c.compare_items.result (λ d. answer_after E c.compare_items.new.waiting.items (answer_of E d) ≡ answer_after E
+    c.args.waiting.now.items (answer_of E z))) (sym c.in-Items.is) c.compare_items.ensures
 
 pub returns-in-Candidates : goal.returns-in-Candidates
 returns-in-Candidates g c =
     let E = g.S.PartialEq.eq in
-    subst (λ z. IfOk c.compare_candidates.result (λ d. answer_after E c.compare_candidates.new.waiting.items (answer_of E d) ≡ answer_after E c.args.waiting.now.items (answer_of E z))) (sym c.in-Candidates.is) c.compare_candidates.ensures
+    subst (λ z. IfOk c.compare_candidates.result
+    (λ d. answer_after E c.compare_candidates.new.waiting.items (answer_of E d) ≡ answer_after E c.args.waiting.now.items
+    (answer_of E z))) (sym c.in-Candidates.is) c.compare_candidates.ensures
 
 pub returns-in-Answer : goal.returns-in-Answer
 returns-in-Answer g c =

@@ -25,50 +25,62 @@ values_same-returns-in-Object-Object g t c =
 
 pub items_same-loop-i-preserved : goal.items_same-loop-i-preserved
 items_same-loop-i-preserved g t c =
-    let same = and_from _ _ (sym c.spans_same.ensures ∙ c.if-not-spans_same.false) (sym c.values_same.ensures ∙ c.if-not-values_same.false) in
+    let same = and_from _ _ (sym c.spans_same.ensures ∙ c.if-not-spans_same.false) (sym c.values_same.ensures
+    ∙ c.if-not-values_same.false) in
     c.loop-i.invariant
-    ∙ pairs_at (same_item (same_value g.S.PartialEq.eq)) c.args.left.now c.args.right.now c.loop-i.i c.index-left-i.result c.index-right-i.result true c.loop-i-test.true c.if-left-right.false c.index-left-i.is c.index-right-i.is same
+    ∙ pairs_at (same_item (same_value g.S.PartialEq.eq)) c.args.left.now c.args.right.now c.loop-i.i c.index-left-i.result
+    c.index-right-i.result true c.loop-i-test.true c.if-left-right.false c.index-left-i.is c.index-right-i.is same
 
 pub items_same-returns : goal.items_same-returns
 items_same-returns g t c =
-    sym (c.loop-i.invariant ∙ pairs_end (same_item (same_value g.S.PartialEq.eq)) c.args.left.now c.args.right.now c.loop-i.i c.if-left-right.false c.loop-i-test.false)
+    sym (c.loop-i.invariant ∙ pairs_end (same_item (same_value g.S.PartialEq.eq)) c.args.left.now c.args.right.now c.loop-i.i
+    c.if-left-right.false c.loop-i-test.false)
 
 pub items_same-returns-then-left-right : goal.items_same-returns-then-left-right
-items_same-returns-then-left-right g t c = sym (pairs_of_lengths (same_item (same_value g.S.PartialEq.eq)) c.args.left.now c.args.right.now c.if-left-right.true)
+items_same-returns-then-left-right g t c =
+    sym (pairs_of_lengths (same_item (same_value g.S.PartialEq.eq)) c.args.left.now c.args.right.now c.if-left-right.true)
 
 pub items_same-returns-then-not-spans_same : goal.items_same-returns-then-not-spans_same
 items_same-returns-then-not-spans_same g t c =
     let other = and_left_false _ _ (sym c.spans_same.ensures ∙ c.if-not-spans_same.true) in
     sym (c.loop-i.invariant
-    ∙ pairs_at (same_item (same_value g.S.PartialEq.eq)) c.args.left.now c.args.right.now c.loop-i.i c.index-left-i.result c.index-right-i.result false c.loop-i-test.true c.if-left-right.false c.index-left-i.is c.index-right-i.is other)
+    ∙ pairs_at (same_item (same_value g.S.PartialEq.eq)) c.args.left.now c.args.right.now c.loop-i.i c.index-left-i.result
+    c.index-right-i.result false c.loop-i-test.true c.if-left-right.false c.index-left-i.is c.index-right-i.is other)
 
 pub items_same-returns-then-not-values_same : goal.items_same-returns-then-not-values_same
 items_same-returns-then-not-values_same g t c =
     let other = and_right_false _ _ (sym c.values_same.ensures ∙ c.if-not-values_same.true) in
     sym (c.loop-i.invariant
-    ∙ pairs_at (same_item (same_value g.S.PartialEq.eq)) c.args.left.now c.args.right.now c.loop-i.i c.index-left-i.result c.index-right-i.result false c.loop-i-test.true c.if-left-right.false c.index-left-i.is c.index-right-i.is other)
+    ∙ pairs_at (same_item (same_value g.S.PartialEq.eq)) c.args.left.now c.args.right.now c.loop-i.i c.index-left-i.result
+    c.index-right-i.result false c.loop-i-test.true c.if-left-right.false c.index-left-i.is c.index-right-i.is other)
 
 pub entries_same-loop-i-preserved : goal.entries_same-loop-i-preserved
 entries_same-loop-i-preserved g t c =
-    let same = and_from _ _ (sym c.places_same.ensures ∙ c.if-not-places_same.false) (sym c.values_same.ensures ∙ c.if-not-values_same.false) in
+    let same = and_from _ _ (sym c.places_same.ensures ∙ c.if-not-places_same.false) (sym c.values_same.ensures
+    ∙ c.if-not-values_same.false) in
     c.loop-i.invariant
-    ∙ pairs_at (same_entry (same_value g.S.PartialEq.eq)) c.args.left.now c.args.right.now c.loop-i.i c.index-left-i.result c.index-right-i.result true c.loop-i-test.true c.if-left-right.false c.index-left-i.is c.index-right-i.is same
+    ∙ pairs_at (same_entry (same_value g.S.PartialEq.eq)) c.args.left.now c.args.right.now c.loop-i.i c.index-left-i.result
+    c.index-right-i.result true c.loop-i-test.true c.if-left-right.false c.index-left-i.is c.index-right-i.is same
 
 pub entries_same-returns : goal.entries_same-returns
 entries_same-returns g t c =
-    sym (c.loop-i.invariant ∙ pairs_end (same_entry (same_value g.S.PartialEq.eq)) c.args.left.now c.args.right.now c.loop-i.i c.if-left-right.false c.loop-i-test.false)
+    sym (c.loop-i.invariant ∙ pairs_end (same_entry (same_value g.S.PartialEq.eq)) c.args.left.now c.args.right.now c.loop-i.i
+    c.if-left-right.false c.loop-i-test.false)
 
 pub entries_same-returns-then-left-right : goal.entries_same-returns-then-left-right
-entries_same-returns-then-left-right g t c = sym (pairs_of_lengths (same_entry (same_value g.S.PartialEq.eq)) c.args.left.now c.args.right.now c.if-left-right.true)
+entries_same-returns-then-left-right g t c =
+    sym (pairs_of_lengths (same_entry (same_value g.S.PartialEq.eq)) c.args.left.now c.args.right.now c.if-left-right.true)
 
 pub entries_same-returns-then-not-places_same : goal.entries_same-returns-then-not-places_same
 entries_same-returns-then-not-places_same g t c =
     let other = and_left_false _ _ (sym c.places_same.ensures ∙ c.if-not-places_same.true) in
     sym (c.loop-i.invariant
-    ∙ pairs_at (same_entry (same_value g.S.PartialEq.eq)) c.args.left.now c.args.right.now c.loop-i.i c.index-left-i.result c.index-right-i.result false c.loop-i-test.true c.if-left-right.false c.index-left-i.is c.index-right-i.is other)
+    ∙ pairs_at (same_entry (same_value g.S.PartialEq.eq)) c.args.left.now c.args.right.now c.loop-i.i c.index-left-i.result
+    c.index-right-i.result false c.loop-i-test.true c.if-left-right.false c.index-left-i.is c.index-right-i.is other)
 
 pub entries_same-returns-then-not-values_same : goal.entries_same-returns-then-not-values_same
 entries_same-returns-then-not-values_same g t c =
     let other = and_right_false _ _ (sym c.values_same.ensures ∙ c.if-not-values_same.true) in
     sym (c.loop-i.invariant
-    ∙ pairs_at (same_entry (same_value g.S.PartialEq.eq)) c.args.left.now c.args.right.now c.loop-i.i c.index-left-i.result c.index-right-i.result false c.loop-i-test.true c.if-left-right.false c.index-left-i.is c.index-right-i.is other)
+    ∙ pairs_at (same_entry (same_value g.S.PartialEq.eq)) c.args.left.now c.args.right.now c.loop-i.i c.index-left-i.result
+    c.index-right-i.result false c.loop-i-test.true c.if-left-right.false c.index-left-i.is c.index-right-i.is other)
