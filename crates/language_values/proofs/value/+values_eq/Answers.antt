@@ -5,7 +5,7 @@ use Rattle.language_values.proofs.ValueLemmas.{unlocated_eq-at-List, unlocated_e
 use Rattle.std.proofs.Common.{true, false, ◌≡◌, ◌∙◌, sym, ap, nat_eq, string_bytes}
 use Rattle.language_values.specs.ValuesEqual.{unlocated_eq}
 use Rattle.std.proofs.lemmas.Bool.{and_from}
-use Rattle.language_values.proofs.Steps.{pairs_at, pairs_end, pairs_of_lengths, all_at, all_end, any_at, any_end, and_left_false}
+use Rattle.language_values.proofs.Steps.{pairs_at, pairs_end, pairs_of_lengths, all_at, any_at, any_end, and_left_false}
 use Rattle.language_values.proofs.Steps.{and_right_false}
 use Rattle.language_values.proofs.ValueLemmas.{same_items, is_found, is_entry}
 use Rattle.language_values.proofs.value.+values_eq.Goals.{has_entry-else-eq-via-then-eq+else-values_eq, has_entry-else-eq-via-else-eq}

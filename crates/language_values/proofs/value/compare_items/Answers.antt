@@ -1,7 +1,7 @@
 use Rattle.std.proofs.Common.{◌∙◌, sym, ap, refl}
 use Rattle.language_values.specs.declared.value.Comparison.TheVariants as c
 use Rattle.language_values.specs.declared.value.Pending.TheVariants as p
-use Rattle.language_values.specs.EqualSteps.{answer_after, answer_of}
+use Rattle.language_values.specs.EqualSteps.{answer_after}
 use Rattle.language_values.specs.ValuesEqual.{unlocated_eq}
 use Rattle.language_values.proofs.AnswerAfter.{answer_after-push}
 use Rattle.language_values.proofs.ValueLemmas.{same_items}

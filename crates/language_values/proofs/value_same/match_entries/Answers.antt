@@ -1,4 +1,4 @@
-use Rattle.std.proofs.Common.{◌≡◌, ◌∙◌, ◌&&◌, sym, ap, refl, true, false}
+use Rattle.std.proofs.Common.{◌≡◌, ◌∙◌, ◌&&◌, sym, ap, refl, false}
 use Rattle.std.specs.List.{list_all}
 use Rattle.language_values.specs.declared.value_same.Matching.TheVariants as m
 use Rattle.language_values.specs.ValuesSame.{same_value, same_entry, is_match}
