@@ -1,3 +1,4 @@
+pub mod AnswerAfter
 pub mod ConstantLemmas
 pub mod InsideLaws
 pub mod LastValue
@@ -5,6 +6,7 @@ pub mod Members
 pub mod PrintLeft
 pub mod PrintLemmas
 pub mod Separated
+pub mod Steps
 pub mod ValueInduction
 pub mod ValueLaws
 pub mod ValueLemmas

@@ -14,7 +14,8 @@ use Rattle.language_values.specs.declared.value.InputValue.{InputValue, fold-rol
 use Rattle.language_values.specs.declared.value.InputValue.TheVariants as v
 use Rattle.language_values.specs.declared.value.InputValue.TheOpen.{InputValue-F}
 pub use Rattle.language_values.specs.SameLaws.{pointwise-map_left}
-use Rattle.language_values.specs.Values.{Entry, variables_step, entries_layer, variables_of, variables_of_all, variables_of_object, object_entries, IsMapOf, IsMapOfObject}
+use Rattle.language_values.specs.Values.{Entry, variables_step, entries_layer, variables_of, variables_of_all, variables_of_object}
+use Rattle.language_values.specs.Values.{is_plain, object_entries, IsMapOf, IsMapOfObject}
 
 pub variables_of-List : {S : Type 0} (xs : Vec (Spanning (InputValue S) Span) Global) → variables_of (v.List xs) ≡ variables_of_all xs.items
 variables_of-List {S} xs =
@@ -46,7 +47,24 @@ object_entries-Object {S} es = ap object_entries (sym (v.rolls-Object es)) ∙ a
 pub IsMapOfObject-at : {S : Type 0} (w : InputValue S) (es : Vec (Entry (InputValue S)) Global) (items : List (Entry (InputValue S))) (m : BTreeMap (Bor (List ℕ)) (Bor (InputValue S))) → w ≡ v.Object es → items ≡ es.items → IsMapOf m items → IsMapOfObject (Some m) (object_entries w)
 IsMapOfObject-at w es items m at same h = subst (λ o. IsMapOfObject (Some m) o) (sym (ap object_entries at ∙ object_entries-Object es)) (subst (λ xs. IsMapOf m xs) same h)
 
+-- the tests of members for plain values
+abbrev pub is_plain_item : {S : Type 0} → Spanning (InputValue S) Span → Bool
+is_plain_item v = is_plain v.item
+
+abbrev pub is_plain_entry : {S : Type 0} → Entry (InputValue S) → Bool
+is_plain_entry e = is_plain e.1.item
+
 module _ {S : Type 0} (E : S → S → Bool) where
+  -- the tests of members as they are compared
+  abbrev pub same_items : Spanning (InputValue S) Span → Spanning (InputValue S) Span → Bool
+  same_items x y = unlocated_eq E x.item y.item
+
+  abbrev pub is_entry : List ℕ → InputValue S → Entry (InputValue S) → Bool
+  is_entry key value e = pointwise nat_eq (string_bytes e.0.item) key && unlocated_eq E value e.1.item
+
+  abbrev pub is_found : List (Entry (InputValue S)) → Entry (InputValue S) → Bool
+  is_found ys x = entry_in (unlocated_eq E x.1.item) (string_bytes x.0.item) ys
+
   abbrev pub inside : Spanning (InputValue S) Span → Spanning (InputValue S → Bool) Span
   inside x = record { item = unlocated_eq E x.item; span = x.span }
 

@@ -134,18 +134,14 @@ impl<S: Drop> InputValue<S> {
         ensures bare { IfErr result (λ _. IsBare self.new) }
     {
         match self {
-            InputValue::List(items) => {
-                if items.is_empty() {
-                    return Err(value);
-                }
-                Ok(mem::replace(&mut items[0].item, value))
-            }
-            InputValue::Object(entries) => {
-                if entries.is_empty() {
-                    return Err(value);
-                }
-                Ok(mem::replace(&mut entries[0].1.item, value))
-            }
+            InputValue::List(items) => match items.first_mut() {
+                Some(first) => Ok(mem::replace(&mut first.item, value)),
+                None => Err(value),
+            },
+            InputValue::Object(entries) => match entries.first_mut() {
+                Some(first) => Ok(mem::replace(&mut first.1.item, value)),
+                None => Err(value),
+            },
             _ => Err(value),
         }
     }
@@ -349,7 +345,6 @@ enum Rest<'v, S> {
 
 impl<'v, S> Rest<'v, S> {
     // The first value, and what is left after it.
-    #[tactic(auto, using(crate::proofs::VariablesWaiting::split_items, crate::proofs::VariablesWaiting::split_entries, crate::proofs::VariablesWaiting::split_items_inside, crate::proofs::VariablesWaiting::split_entries_inside))]
     fn split_first(self) -> Option<(&'v InputValue<S>, Rest<'v, S>)>
         ensures some { IfSome result (λ p. variables_left self.entry ≡ variables_of p.0.now ++ variables_left p.1) }
         ensures less { IfSome result (λ p. values_left self.entry ≡ values_inside p.0.now + values_left p.1) }
@@ -591,14 +586,14 @@ fn compare_items<'v, S: ScalarValue>(
     ensures { IfOk result (λ c. answer_after S.eq waiting.new.items (answer_of S.eq c)
         ≡ answer_after S.eq waiting.old.items (pointwise (λ x y. unlocated_eq S.eq x.item y.item) left.now right.now)) }
 {
-    match (left.split_first(), right.split_first()) {
-        (Some((x, xs)), Some((y, ys))) => {
-            waiting.push(Pending::And(Comparison::Items(xs, ys)))?;
-            Ok(Comparison::Values(&x.item, &y.item))
-        }
-        (None, None) => Ok(Comparison::Answer(true)),
-        _ => Ok(Comparison::Answer(false)),
-    }
+    let Some((x, xs)) = left.split_first() else {
+        return Ok(Comparison::Answer(right.is_empty()));
+    };
+    let Some((y, ys)) = right.split_first() else {
+        return Ok(Comparison::Answer(false));
+    };
+    waiting.push(Pending::And(Comparison::Items(xs, ys)))?;
+    Ok(Comparison::Values(&x.item, &y.item))
 }
 
 fn compare_entries<'v, S: ScalarValue>(
@@ -629,11 +624,11 @@ fn compare_candidates<'v, S: ScalarValue>(
     let Some(((k, v), others)) = entries.split_first() else {
         return Ok(Comparison::Answer(false));
     };
-    if k.item.as_str() != key {
-        return Ok(Comparison::Candidates(key, value, others));
+    if k.item.as_str() == key {
+        waiting.push(Pending::Or(Comparison::Candidates(key, value, others)))?;
+        return Ok(Comparison::Values(value, &v.item));
     }
-    waiting.push(Pending::Or(Comparison::Candidates(key, value, others)))?;
-    Ok(Comparison::Values(value, &v.item))
+    Ok(Comparison::Candidates(key, value, others))
 }
 
 #[cycle(values_eq)]

@@ -20,11 +20,13 @@ impl<S: fmt::Debug> fmt::Debug for InputValue<S> {
     }
 }
 
-// A piece of what is to be printed.
+// A piece of what is to be printed. With what is left of a list or an object stands whether nothing stands before it
+// in its brackets; the bracket after it is printed with it.
 #[derive(Drop)]
 enum Piece<'v, S> {
-    Text(&'v str),
     Value(&'v InputValue<S>),
+    Items(bool, &'v [Spanning<InputValue<S>>]),
+    Entries(bool, &'v [(Spanning<String>, Spanning<InputValue<S>>)]),
 }
 
 fn print_variable<W: fmt::Write>(name: &str, f: &mut fmt::Formatter<W>) -> fmt::Result {
@@ -42,8 +44,11 @@ fn print_pieces<S: fmt::Debug, W: fmt::Write>(
     push_piece(piece, &mut waiting)?;
     for _ in 0..u64::MAX {
         match waiting.pop() {
-            Some(Piece::Text(text)) => f.write_str(text)?,
             Some(Piece::Value(value)) => print_level(value, &mut waiting, f)?,
+            Some(Piece::Items(is_first, items)) => print_items(is_first, items, &mut waiting, f)?,
+            Some(Piece::Entries(is_first, entries)) => {
+                print_entries(is_first, entries, &mut waiting, f)?
+            }
             None => return Ok(()),
         }
     }
@@ -57,7 +62,7 @@ fn push_piece<'v, S>(piece: Piece<'v, S>, waiting: &mut Vec<Piece<'v, S>>) -> fm
     }
 }
 
-// Prints a value that holds no other, or puts its pieces on the list, the first one last.
+// Prints a value that holds no other, or its bracket; then what is inside waits.
 fn print_level<'v, S: fmt::Debug, W: fmt::Write>(
     value: &'v InputValue<S>,
     waiting: &mut Vec<Piece<'v, S>>,
@@ -70,41 +75,47 @@ fn print_level<'v, S: fmt::Debug, W: fmt::Write>(
         InputValue::Variable(name) => print_variable(name.as_str(), f),
         InputValue::List(items) => {
             f.write_str("[")?;
-            push_items(items.as_slice(), waiting)
+            push_piece(Piece::Items(true, items.as_slice()), waiting)
         }
         InputValue::Object(entries) => {
             f.write_str("{")?;
-            push_entries(entries.as_slice(), waiting)
+            push_piece(Piece::Entries(true, entries.as_slice()), waiting)
         }
     }
 }
 
-fn push_items<'v, S>(
+fn print_comma<W: fmt::Write>(is_first: bool, f: &mut fmt::Formatter<W>) -> fmt::Result {
+    f.write_str(if is_first { "" } else { ", " })
+}
+
+// Prints up to the first item, or the bracket where none is left.
+fn print_items<'v, S, W: fmt::Write>(
+    is_first: bool,
     items: &'v [Spanning<InputValue<S>>],
     waiting: &mut Vec<Piece<'v, S>>,
+    f: &mut fmt::Formatter<W>,
 ) -> fmt::Result {
-    push_piece(Piece::Text("]"), waiting)?;
-    for (i, item) in items.iter().enumerate().rev() {
-        push_piece(Piece::Value(&item.item), waiting)?;
-        if i != 0 {
-            push_piece(Piece::Text(", "), waiting)?;
-        }
-    }
-    Ok(())
+    let Some((first, others)) = items.split_first() else {
+        return f.write_str("]");
+    };
+    print_comma(is_first, f)?;
+    push_piece(Piece::Items(false, others), waiting)?;
+    push_piece(Piece::Value(&first.item), waiting)
 }
 
-fn push_entries<'v, S>(
+// Prints up to the first value, or the bracket where none is left.
+fn print_entries<'v, S, W: fmt::Write>(
+    is_first: bool,
     entries: &'v [(Spanning<String>, Spanning<InputValue<S>>)],
     waiting: &mut Vec<Piece<'v, S>>,
+    f: &mut fmt::Formatter<W>,
 ) -> fmt::Result {
-    push_piece(Piece::Text("}"), waiting)?;
-    for (i, (key, value)) in entries.iter().enumerate().rev() {
-        push_piece(Piece::Value(&value.item), waiting)?;
-        push_piece(Piece::Text(": "), waiting)?;
-        push_piece(Piece::Text(key.item.as_str()), waiting)?;
-        if i != 0 {
-            push_piece(Piece::Text(", "), waiting)?;
-        }
-    }
-    Ok(())
+    let Some(((key, first), others)) = entries.split_first() else {
+        return f.write_str("}");
+    };
+    print_comma(is_first, f)?;
+    f.write_str(key.item.as_str())?;
+    f.write_str(": ")?;
+    push_piece(Piece::Entries(false, others), waiting)?;
+    push_piece(Piece::Value(&first.item), waiting)
 }

@@ -109,18 +109,18 @@ fn match_items<'v, S: PartialEq>(
         ≡ (pointwise (same_item (same_value S.eq)) left.now right.now
         && list_all (is_match S.eq) waiting.old.items)) }
 {
-    match (left.split_first(), right.split_first()) {
-        (Some((x, xs)), Some((y, ys))) => {
-            if !spans_same(&x.span, &y.span) {
-                return Ok(false);
-            }
-            waiting.push(Matching::Items(xs, ys))?;
-            waiting.push(match_values(&x.item, &y.item))?;
-            Ok(true)
-        }
-        (None, None) => Ok(true),
-        _ => Ok(false),
+    let Some((x, xs)) = left.split_first() else {
+        return Ok(right.is_empty());
+    };
+    let Some((y, ys)) = right.split_first() else {
+        return Ok(false);
+    };
+    if !spans_same(&x.span, &y.span) {
+        return Ok(false);
     }
+    waiting.push(Matching::Items(xs, ys))?;
+    waiting.push(match_values(&x.item, &y.item))?;
+    Ok(true)
 }
 
 fn match_entries<'v, S: PartialEq>(
@@ -132,18 +132,18 @@ fn match_entries<'v, S: PartialEq>(
         ≡ (pointwise (same_entry (same_value S.eq)) left.now right.now
         && list_all (is_match S.eq) waiting.old.items)) }
 {
-    match (left.split_first(), right.split_first()) {
-        (Some((x, xs)), Some((y, ys))) => {
-            if !places_same(x, y) {
-                return Ok(false);
-            }
-            waiting.push(Matching::Entries(xs, ys))?;
-            waiting.push(match_values(&x.1.item, &y.1.item))?;
-            Ok(true)
-        }
-        (None, None) => Ok(true),
-        _ => Ok(false),
+    let Some((x, xs)) = left.split_first() else {
+        return Ok(right.is_empty());
+    };
+    let Some((y, ys)) = right.split_first() else {
+        return Ok(false);
+    };
+    if !places_same(x, y) {
+        return Ok(false);
     }
+    waiting.push(Matching::Entries(xs, ys))?;
+    waiting.push(match_values(&x.1.item, &y.1.item))?;
+    Ok(true)
 }
 
 #[tactic(auto, unfolding(crate::specs::ValuesSame::same_span))]
