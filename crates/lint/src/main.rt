@@ -1,7 +1,7 @@
 //! The program `lint`: validates files of GraphQL queries against a schema.
 #![tactic(auto)]
 
-use lint_app::failure::Failure;
+use lint_files::failure::Failure;
 use lint_app::machine;
 use lint_app::program::tell_failure;
 use std::io::IsTerminal;

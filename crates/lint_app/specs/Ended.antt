@@ -8,7 +8,7 @@ use Rattle.clap.specs.declared.error.Error.{Error}
 use Rattle.clap.specs.declared.error.kind.ErrorKind.{ErrorKind}
 use Rattle.lint_app.specs.declared.program.Told.{Told}
 use Rattle.lint_app.specs.Tasks.{TellsTask}
-use Rattle.lint_app.specs.Host.{Host}
+use Rattle.lint_files.specs.Host.{Host}
 use Rattle.lint_app.specs.Rules.{SourceRules}
 use Rattle.lint_args.specs.Asks.{AsksFor, IsRefusal, IsRequest, input_count, word_texts}
 use Rattle.lint_args.specs.declared.task.Form.{Form}

@@ -1,6 +1,4 @@
 pub mod Ended
-pub mod Host
-pub mod Paths
 pub mod Rules
 pub mod Tasks
 pub mod Told

@@ -4,9 +4,10 @@ use Rattle.std.specs.Prelude.{◌≡◌, ◌-◌, ◌==◌, ◌&&◌, if◌then�
 use Rattle.std.specs.Prelude.{string_bytes, vec_len}
 use Rattle.lint_app.specs.declared.documents.Report.{Report}
 use Rattle.lint_app.specs.declared.program.Told.{Told}
-use Rattle.lint_app.specs.Host.{Host}
-use Rattle.lint_app.specs.Paths.{ArePathsOf, Paths}
-use Rattle.lint_app.specs.Told.{AreReadOf, GivenValues, IsReport, Root}
+use Rattle.lint_files.specs.Host.{Host}
+use Rattle.lint_files.specs.Paths.{ArePathsOf, Paths}
+use Rattle.lint_app.specs.Told.{GivenValues, IsReport, Root}
+use Rattle.lint_files.specs.Read.{AreReadOf}
 use Rattle.lint_app.specs.Rules.{SourceRules}
 use Rattle.lint_sources.specs.declared.faults.Fault.{Fault}
 use Rattle.lint_sources.specs.declared.issues.Issue.{Issue}

@@ -1,24 +1,21 @@
 -- What is told of files of queries.
 use Rattle.std.specs.Prelude.{◌≡◌, ◌↔◌, ⊤, Bool, true, false, ℕ, ◌+◌, List, [], ◌∷◌, ◌++◌, Option, Some, None}
 use Rattle.std.specs.Prelude.{IsPermutation, IsSorted, IfSome, if◌then◌else◌, codes, count_by, is_some, length}
-use Rattle.std.specs.Prelude.{map, String, string_bytes}
-use Rattle.std.specs.declared.alloc.Global.{Global}
+use Rattle.std.specs.Prelude.{map}
 use Rattle.std.specs.Fmt.{decimal}
 use Rattle.std.specs.List.{AllZip, flat_map}
-use Rattle.std.specs.Option.{option_to_list}
 use Rattle.language.specs.declared.tree.Definition.{Definition}
 use Rattle.language.specs.declared.tree.Definition.TheVariants as definition
 use Rattle.language.specs.declared.tree.Operation.{Operation}
 use Rattle.graphql_reader.specs.Documents.{IsDocument, definition_seen}
 use Rattle.lint_app.specs.declared.documents.Report.{Report}
-use Rattle.lint_app.specs.Host.{Host}
-use Rattle.lint_app.specs.Paths.{Paths}
 use Rattle.lint_app.specs.Rules.{SourceRules}
+use Rattle.lint_files.specs.Read.{IsJoined}
 use Rattle.lint_sources.specs.declared.issues.Issue.{Issue}
 use Rattle.lint_sources.specs.declared.sources.Joined.{Joined}
 use Rattle.lint_sources.specs.declared.sources.Source.{Source}
 use Rattle.lint_sources.specs.Issues.{IsIssueIn}
-use Rattle.lint_sources.specs.Places.{HasNoFile, JoinsFile, text_of}
+use Rattle.lint_sources.specs.Places.{text_of}
 use Rattle.sdl_scalars.specs.declared.check.SourceCheck.{SourceCheck}
 use Rattle.sdl_scalars.specs.declared.scalar.SourceScalar.{SourceScalar}
 use Rattle.sdl_scalars.specs.Checks.{MayAnswer}
@@ -66,33 +63,6 @@ pub record AddsIf (is_document : Bool) (P : List Issue → Type 0) (old new : Li
   pub told : IfSome outcome P
   pub is : is_document ≡ is_some outcome
   pub all : new ≡ old ++ issues_of outcome
-
--- a file has this name and these bytes
-abbrev pub HasText : List ℕ → List ℕ → Source → Type 0
-HasText path bytes source = (string_bytes source.path ≡ path) × (string_bytes source.text ≡ bytes)
-
--- a file has this name, and its bytes where they are known
-abbrev pub IsFileOf : Host → List ℕ → Source → Type 0
-IsFileOf host path source = (string_bytes source.path ≡ path) × IfSome (host.file path) (λ bytes. string_bytes source.text ≡ bytes)
-
--- what is read of a path: the file of this name, or nothing
-abbrev pub IsReadOf : Host → ℕ → String Global → List Source → Type 0
-IsReadOf host index path sources =
-    (read : Option Source) × (sources ≡ option_to_list read) × IfSome read (IsFileOf host (string_bytes path))
-
--- what is read of each path in turn
-abbrev pub AreReadOf : Host → Paths → List Source → Type 0
-AreReadOf host = InTurn (IsReadOf host) 0
-
--- a text with these files behind it, whose numbers count from this
-abbrev pub JoinsFiles : ℕ → List Source → Joined → Joined → Type 0
-JoinsFiles file [] old new = new ≡ old
-JoinsFiles file (source ∷ sources) old new =
-    (next : Joined) × JoinsFile old file (string_bytes source.text) next × JoinsFiles (file + 1) sources next new
-
--- the text of these files
-abbrev pub IsJoined : ℕ → List Source → Joined → Type 0
-IsJoined file sources joined = (none : Joined) × HasNoFile none × JoinsFiles file sources none joined
 
 -- the faults of the values for the variables of an operation, in ascending order
 pub record AreFaultsOf (root : Root) (values : GivenValues) (operation : Operation SourceScalar) (faults : List ErrorValue) : Type 0 where

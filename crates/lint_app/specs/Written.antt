@@ -7,7 +7,7 @@ use Rattle.std.specs.List.{list_any, starts_with}
 use Rattle.std.specs.Str.{bytes_eq}
 use Rattle.lint_app.specs.declared.program.Told.{Told}
 use Rattle.lint_app.specs.Tasks.{TellsTask}
-use Rattle.lint_app.specs.Host.{Host}
+use Rattle.lint_files.specs.Host.{Host}
 use Rattle.lint_app.specs.Rules.{SourceRules}
 use Rattle.lint_args.specs.Asks.{AsksFor, word_texts}
 use Rattle.lint_args.specs.declared.task.Task.{Task}

@@ -5,10 +5,10 @@ ghost use Rattle.lint_app.specs.Told.{Adds, AddsIf, AreToldAs, HasKnownTypes, Is
 ghost use Rattle.lint_app.specs.Told.{TellsFaultsAt, TellsFaultsIn, TellsFiles, TellsRead, TellsTogether};
 ghost use Rattle.lint_app.specs.Told.{limit_notes, limit_text};
 
-use crate::failure::Failure;
-use crate::files::{add_fault, joined_of};
 use crate::rules::LintRules;
 use graphql_reader::{ReadError, SourceScalar, read_document_within};
+use lint_files::failure::Failure;
+use lint_files::files::{add_fault, joined_of};
 use lint_sources::faults::Fault;
 use lint_sources::issues::Issue;
 use lint_sources::sources::{Joined, Place, Source};

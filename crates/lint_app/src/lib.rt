@@ -10,13 +10,8 @@
 //! schema is that of its texts, is only tested.
 #![tactic(auto)]
 
-pub mod colours;
 pub mod documents;
-pub mod failure;
-pub mod files;
-pub mod folders;
 pub mod machine;
-pub mod paths;
 pub mod program;
 pub mod rules;
 pub mod schemas;

@@ -2,16 +2,16 @@
 ghost use Rattle.std.specs.Prelude.{◌≡◌, ◌≤◌, ◌⊎◌, false, true};
 ghost use Rattle.lint_args.specs.Asks.{WantsText, word_texts};
 ghost use Rattle.lint_app.specs.Ended.{Ends};
-ghost use Rattle.lint_app.specs.Host.{unknown_host};
+ghost use Rattle.lint_files.specs.Host.{unknown_host};
 ghost use Rattle.lint_app.specs.Written.{WritesAsked, asks_for_text};
 
-use crate::colours::Colours;
-use crate::files::Inputs;
-use crate::folders::{files_below, is_folder};
 use crate::program;
 use crate::rules::LintRules;
 use graphql_reader::SourceScalar;
 use lint_args::task::INPUT;
+use lint_files::colours::Colours;
+use lint_files::files::Inputs;
+use lint_files::folders::{files_below, is_folder};
 use std::alloc::{AllocError, Global};
 use std::env::{self, Env, VarError};
 use std::fs;

@@ -3,11 +3,11 @@ ghost use Rattle.std.specs.Prelude.{◌≡◌, IfOk};
 ghost use Rattle.lint_app.specs.Tasks.{IsRootOf, IsSchemaOf};
 ghost use Rattle.lint_app.specs.Tasks as tasks;
 
-use crate::failure::Failure;
-use crate::files::{Inputs, read_sources};
-use crate::paths::paths_of;
 use graphql_reader::SourceScalar;
 use lint_args::task::Task;
+use lint_files::failure::Failure;
+use lint_files::files::{Inputs, read_sources};
+use lint_files::paths::paths_of;
 use lint_schema::schema_of;
 use lint_sources::faults::Fault;
 use lint_sources::sources::Source;

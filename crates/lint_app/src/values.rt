@@ -1,7 +1,7 @@
 //! Reads values of variables from a file.
-use crate::failure::Failure;
-use crate::files::{Inputs, read_file, told_fault};
 use graphql_reader::SourceScalar;
+use lint_files::failure::Failure;
+use lint_files::files::{Inputs, read_file, told_fault};
 use lint_sources::faults::Fault;
 use lint_sources::json_text::JsonError;
 use lint_sources::sources::{Place, Source};

@@ -1,6 +1,6 @@
 //! Runs over files in memory.
 use crate::fakes::{Memory, run_broken, run_over};
-use lint_app::colours::Colours;
+use lint_files::colours::Colours;
 use std::alloc::Global;
 use std::process::Abort;
 

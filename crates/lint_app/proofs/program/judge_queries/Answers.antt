@@ -1,7 +1,7 @@
 use Rattle.std.proofs.Common.{ap, length, subst, sym}
-use Rattle.lint_app.specs.Paths.{ArePathsOf}
+use Rattle.lint_files.specs.Paths.{ArePathsOf}
 use Rattle.lint_app.specs.Tasks.{IsToldOf}
-use Rattle.lint_app.specs.Told.{AreReadOf}
+use Rattle.lint_files.specs.Read.{AreReadOf}
 use Rattle.lint_app.proofs.program.judge_queries.Goals as goal
 
 -- the files were read, and a report on them is told

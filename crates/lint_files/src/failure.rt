@@ -1,7 +1,7 @@
 //! Why the program ends early.
+use language_types::error::OutOfMemory;
 use std::alloc::{AllocError, AllocFailed};
 use std::{fmt, io};
-use validation::OutOfMemory;
 
 /// Why the program ends early.
 #[derive(Clone, Copy, Debug)]

@@ -1,8 +1,8 @@
 use Rattle.std.proofs.Common.{refl, subst, sym, drop_of_length-le}
-use Rattle.lint_app.specs.Told.{JoinsFiles}
+use Rattle.lint_files.specs.Read.{JoinsFiles}
 use Rattle.lint_sources.specs.Places.{JoinsFile}
 use Rattle.schema_validation.proofs.Finds.{rest_at}
-use Rattle.lint_app.proofs.files.joined_of.Goals as goal
+use Rattle.lint_files.proofs.files.joined_of.Goals as goal
 
 -- one more file
 pub loop-file-preserved : goal.loop-file-preserved

@@ -1,8 +1,8 @@
 use Rattle.std.proofs.Common.{subst}
 use Rattle.std.proofs.lemmas.List.{take_all}
-use Rattle.lint_app.specs.Paths.{AddsEach}
-use Rattle.lint_app.proofs.Telling.{path_more}
-use Rattle.lint_app.proofs.paths.add_each.Goals as goal
+use Rattle.lint_files.specs.Paths.{AddsEach}
+use Rattle.lint_files.proofs.Reading.{path_more}
+use Rattle.lint_files.proofs.paths.add_each.Goals as goal
 
 -- one more path
 pub loop-path-preserved : goal.loop-path-preserved

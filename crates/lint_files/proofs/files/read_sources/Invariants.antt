@@ -1,6 +1,6 @@
-use Rattle.lint_app.specs.Told.{IsReadOf}
+use Rattle.lint_files.specs.Read.{IsReadOf}
 use Rattle.variable_values.proofs.InTurns.{Done}
-use Rattle.lint_app.proofs.files.read_sources.Given as goal
+use Rattle.lint_files.proofs.files.read_sources.Given as goal
 
 -- the paths so far were read
 abbrev pub invariant-loop-path : goal.invariant-loop-path

@@ -1,8 +1,8 @@
 use Rattle.std.proofs.Common.{drop_of_length-le, subst}
-use Rattle.lint_app.specs.Paths.{AddsEach, StandsFor}
-use Rattle.lint_app.proofs.Telling.{stood_more}
+use Rattle.lint_files.specs.Paths.{AddsEach, StandsFor}
+use Rattle.lint_files.proofs.Reading.{stood_more}
 use Rattle.variable_values.proofs.InTurns.{done_all}
-use Rattle.lint_app.proofs.paths.paths_of.Goals as goal
+use Rattle.lint_files.proofs.paths.paths_of.Goals as goal
 
 -- one more argument
 pub loop-argument-preserved : goal.loop-argument-preserved

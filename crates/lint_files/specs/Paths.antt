@@ -3,7 +3,7 @@ use denote.Ref.{Bor}
 use Rattle.std.specs.Prelude.{◌≡◌, ◌∷◌, ◌++◌, ℕ, List, [], None, Option, Some, IfSome, IsPermutation, IsSorted, String}
 use Rattle.std.specs.Prelude.{option_map, string_cmp}
 use Rattle.std.specs.declared.alloc.Global.{Global}
-use Rattle.lint_app.specs.Host.{Host}
+use Rattle.lint_files.specs.Host.{Host}
 use Rattle.lint_args.specs.Asks.{distinct, word_texts}
 use Rattle.variable_values.specs.InTurn.{InTurn}
 

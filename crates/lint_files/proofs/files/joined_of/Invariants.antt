@@ -1,7 +1,7 @@
 use Rattle.std.proofs.Common.{drop}
-use Rattle.lint_app.specs.Told.{JoinsFiles}
+use Rattle.lint_files.specs.Read.{JoinsFiles}
 use Rattle.lint_sources.specs.declared.sources.Joined.{Joined}
-use Rattle.lint_app.proofs.files.joined_of.Given as goal
+use Rattle.lint_files.proofs.files.joined_of.Given as goal
 
 -- what joins the other files behind these joins all
 abbrev pub invariant-loop-file : goal.invariant-loop-file

@@ -1,16 +1,16 @@
 //! Files by their paths.
 ghost use Rattle.std.specs.Prelude.{◌≡◌, ◌++◌, IfOk, IfSome, OnOk};
 ghost use Rattle.std.specs.Option.{option_to_list};
-ghost use Rattle.lint_app.specs.Told.{AreReadOf, HasText, IsFileOf, IsJoined};
+ghost use Rattle.lint_files.specs.Read.{AreReadOf, HasText, IsFileOf, IsJoined};
 
 use crate::colours::Colours;
 use crate::failure::Failure;
+use language_types::error::OutOfMemory;
 use lint_sources::faults::Fault;
 use lint_sources::sources::{Joined, Place, Source};
 use lint_sources::text_places::position_at;
 use std::alloc::{AllocError, Global};
 use std::{fmt, io, str};
-use validation::OutOfMemory;
 
 const WITHOUT_FILES: &str = "no .graphql or .gql files, or the directory can't be listed";
 
@@ -18,7 +18,7 @@ const WITHOUT_FILES: &str = "no .graphql or .gql files, or the directory can't b
 pub trait Inputs {
     ghost use Rattle.std.specs.Prelude.{option_map};
     ghost use Rattle.lint_args.specs.Asks.{word_texts};
-    ghost use Rattle.lint_app.specs.Host.{Host, no_colours, unknown_host};
+    ghost use Rattle.lint_files.specs.Host.{Host, no_colours, unknown_host};
 
     // What is known of it.
     ghost host: { Self → Host } = { λ _. unknown_host no_colours };

@@ -1,6 +1,6 @@
 use Rattle.std.proofs.Common.{take}
-use Rattle.lint_app.specs.Paths.{AddsEach}
-use Rattle.lint_app.proofs.paths.add_each.Given as goal
+use Rattle.lint_files.specs.Paths.{AddsEach}
+use Rattle.lint_files.proofs.paths.add_each.Given as goal
 
 -- the paths so far were added
 abbrev pub invariant-loop-path : goal.invariant-loop-path

@@ -1,8 +1,8 @@
 use Rattle.std.proofs.Common.{◌≡◌}
-use Rattle.lint_app.specs.Paths.{Paths, StandsFor}
+use Rattle.lint_files.specs.Paths.{Paths, StandsFor}
 use Rattle.lint_args.specs.Asks.{distinct, word_texts}
 use Rattle.variable_values.proofs.InTurns.{Done}
-use Rattle.lint_app.proofs.paths.paths_of.Given as goal
+use Rattle.lint_files.proofs.paths.paths_of.Given as goal
 
 -- the paths are those that the arguments so far stand for
 abbrev pub invariant-loop-argument : goal.invariant-loop-argument

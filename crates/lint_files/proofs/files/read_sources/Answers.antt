@@ -1,8 +1,8 @@
 use Rattle.std.proofs.Common.{drop_of_length-le}
-use Rattle.lint_app.specs.Told.{IsReadOf}
-use Rattle.lint_app.proofs.Telling.{paths_more}
+use Rattle.lint_files.specs.Read.{IsReadOf}
+use Rattle.lint_files.proofs.Reading.{paths_more}
 use Rattle.variable_values.proofs.InTurns.{done_all}
-use Rattle.lint_app.proofs.files.read_sources.Goals as goal
+use Rattle.lint_files.proofs.files.read_sources.Goals as goal
 
 -- one more path
 pub loop-path-preserved : goal.loop-path-preserved

@@ -3,7 +3,7 @@ ghost use Rattle.std.specs.Prelude.{◌≡◌, ◌∷◌, [], IfOk, OnOk, Some, 
 ghost use Rattle.std.specs.List.{list_any};
 ghost use Rattle.std.specs.Str.{bytes_eq};
 ghost use Rattle.lint_args.specs.Asks.{added_once, word_texts};
-ghost use Rattle.lint_app.specs.Paths.{AddsEach, ArePathsOf, IsListing, StandsFor};
+ghost use Rattle.lint_files.specs.Paths.{AddsEach, ArePathsOf, IsListing, StandsFor};
 
 use crate::files::Inputs;
 use std::alloc::{AllocError, Global};

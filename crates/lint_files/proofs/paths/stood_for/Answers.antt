@@ -2,7 +2,7 @@ use Rattle.std.proofs.Common.{◌≡◌, Some, option_map, subst}
 use Rattle.std.proofs.lemmas.Result.{IfOk-weaker}
 use Rattle.std.specs.Option.{IfSome}
 use Rattle.lint_args.specs.Asks.{word_texts}
-use Rattle.lint_app.proofs.paths.stood_for.Goals as goal
+use Rattle.lint_files.proofs.paths.stood_for.Goals as goal
 
 -- what was listed stands in order
 pub returns-in-Some : goal.returns-in-Some

@@ -1,5 +1,5 @@
-use Rattle.lint_app.proofs.Telling.{known_once, new_once}
-use Rattle.lint_app.proofs.paths.add_once.Goals as goal
+use Rattle.lint_files.proofs.Reading.{known_once, new_once}
+use Rattle.lint_files.proofs.paths.add_once.Goals as goal
 
 -- the path is there
 pub returns-then-is_among : goal.returns-then-is_among

@@ -1,6 +1,6 @@
 -- What is known of what a run finds outside.
 use Rattle.std.specs.Prelude.{ℕ, List, None, Option, false}
-use Rattle.lint_app.specs.declared.colours.Colours.{Colours}
+use Rattle.lint_files.specs.declared.colours.Colours.{Colours}
 
 -- files by their paths, which files are below a directory, and which streams show colours; for a path that is no
 -- directory there is no list
