@@ -1,9 +1,9 @@
 //! The program `lint`: validates files of GraphQL queries against a schema.
 #![tactic(auto)]
 
-use lint_files::failure::Failure;
 use lint_app::machine;
 use lint_app::program::tell_failure;
+use lint_files::failure::Failure;
 use std::io::IsTerminal;
 use std::process::ExitCode;
 

@@ -1,9 +1,9 @@
 //! Files in memory, and a writer that fails.
 ghost use Rattle.lint_files.specs.Host.{unknown_host};
 
+use lint_app::program::run;
 use lint_files::colours::Colours;
 use lint_files::files::Inputs;
-use lint_app::program::run;
 use std::alloc::{AllocError, Global};
 use std::io::{self, Write};
 
