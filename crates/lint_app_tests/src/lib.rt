@@ -1,4 +1,6 @@
-//! Tests of the crate `lint_app`: runs over files in memory, also with a read, a write or an allocation that fails.
+//! Tests of the crates `lint_app`, `lint_sources` and `lint_report`: runs over files in memory, also with a read, a
+//! write or an allocation that fails; positions of joined texts, errors in each form, windows of lines, and values of
+//! variables from JSON.
 #![tactic(auto)]
 
 #[cfg(test)]
@@ -7,3 +9,11 @@ mod broken;
 mod fakes;
 #[cfg(test)]
 mod forms;
+#[cfg(test)]
+mod places;
+#[cfg(test)]
+mod reports;
+#[cfg(test)]
+mod values;
+#[cfg(test)]
+mod windows;

@@ -1,8 +1,11 @@
-//! The program `reader_rows`: reads texts by `graphql_reader`, `sdl_reader` and `introspection`, and reports where what
-//! comes is not what is expected.
+//! The program `reader_rows`: reads texts by `graphql_reader`, `sdl_reader` and `introspection`, judges schemas by
+//! `sdl_faults`, and reports where what comes is not what is expected.
 #![tactic(auto)]
 
+mod directive_faults;
+mod faults;
 mod inputs;
+mod made;
 mod questions;
 mod results;
 mod shown;
@@ -23,9 +26,14 @@ const FILES: &[&str] = &[
     "values.txt",
     "schemas.txt",
     "introspection.txt",
+    "rules.txt",
+    "several.txt",
+    "no_schema.txt",
+    "directives.txt",
+    "made.txt",
 ];
 
-/// What the readers make of texts.
+/// What the readers make of texts, and which faults schemas have.
 struct Readers;
 
 impl Judge for Readers {
@@ -42,6 +50,9 @@ impl Judge for Readers {
             "both forms" => whole::tell_both(alloc, text, came)?,
             "inputs" => inputs::tell_inputs(alloc, false, text, came)?,
             "introspection inputs" => inputs::tell_inputs(alloc, true, text, came)?,
+            "faults" => faults::tell_schema_faults(alloc, text, came)?,
+            "directives" => directive_faults::tell_directives(alloc, text, came)?,
+            "made" => faults::tell_made(alloc, text, came)?,
             _ if kind.starts_with("introspection") => {
                 return results::tell_result(alloc, kind, text, came);
             }

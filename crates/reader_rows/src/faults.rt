@@ -17,7 +17,7 @@ use std::alloc::{AllocError, Global};
 /// # Errors
 ///
 /// Out of memory.
-pub fn tell_schema(alloc: Global, text: &str, came: &mut String) -> Result<(), AllocError> {
+pub fn tell_schema_faults(alloc: Global, text: &str, came: &mut String) -> Result<(), AllocError> {
     let Ok(document) = read_type_system(alloc, text) else {
         return came.push_str("no document\n");
     };
@@ -162,7 +162,7 @@ pub fn tell_made(alloc: Global, text: &str, came: &mut String) -> Result<(), All
     let made = made_schema(alloc, groups)?;
     let lines = made.lines().count();
     writeln!(came, "{lines} lines")?;
-    tell_schema(alloc, made.as_str(), came)
+    tell_schema_faults(alloc, made.as_str(), came)
 }
 
 // The lifetimes are named so that both documents have one.
