@@ -19,6 +19,16 @@ use Rattle.graphql_reader.proofs.LeavesLaws.{fault_behind, leaves_then}
 use Rattle.graphql_reader.proofs.SelectionLaws.{selection_more, set_begun, set_ended, set_opened, whole_set}
 use Rattle.graphql_reader.proofs.SelectionLeaveLaws.{outer_begun, part_added, part_begun, part_stuck, part_unbegun, rests_some, set_closed, set_goes_on}
 
+-- ---- lists of places
+no_first : {k : ℕ} {ks : List ℕ} → k ∷ ks ≡ [] → ⊥
+no_first h = cc
+
+same_first : {k m : ℕ} {ks ms : List ℕ} → k ∷ ks ≡ m ∷ ms → k ≡ m
+same_first h = cc
+
+same_others : {k m : ℕ} {ks ms : List ℕ} → k ∷ ks ≡ m ∷ ms → ks ≡ ms
+same_others h = cc
+
 -- ---- the list
 laid_more : (xs : List Begun) (a b : Nodes) → laid xs (a ++ b) ≡ laid xs a ++ b
 laid_more [] a b = refl
@@ -140,7 +150,7 @@ outermost_ends {limit} {first} {mid} {now} firsts nodes set ([], own, f, n, s, l
       subst (λ zs. Reads (SpellsSet limit 0 (nodes_seen zs)) first now) (sym same) (whole_set limit own first mid now there s t),
       leaves_then l (set_closed {b = now} 0 own there t),
     )
-outermost_ends firsts nodes set (x ∷ xs, own, f, n, s, l) t some none is = cc
+outermost_ends firsts nodes set (x ∷ xs, own, f, n, s, l) t some none is = absurd (no_first (sym f ∙ none))
 
 -- the others: those that are kept end with the selection that the set belongs to
 pub inner_ends : {limit : Option ℕ} {first mid now : Tokens} (k : ℕ) (rest : List ℕ) (nodes kept set new : Nodes) → Standing limit first (k ∷ rest) nodes mid
@@ -148,10 +158,10 @@ pub inner_ends : {limit : Option ℕ} {first mid now : Tokens} (k : ℕ) (rest :
     → ((before : Nodes) (holder : Node SourceScalar) → kept ≡ before ++ holder ∷ []
     → Adds (λ n. selection_seen n ≡ given_set (selection_seen holder) (nodes_seen set) (last_end_of now)) before new)
     → Standing limit first rest new now
-inner_ends k rest nodes kept set new ([], own, f, n, s, l) t some front back given = cc
+inner_ends k rest nodes kept set new ([], own, f, n, s, l) t some front back given = absurd (no_first f)
 inner_ends {limit} {first} {mid} {now} k rest nodes kept set new (x ∷ xs, own, f, n, s, l) t some front back given =
     let here : Nodes = laid xs (x.before ++ x.holder ∷ []) in
-    let at : k ≡ length here = cc in
+    let at : k ≡ length here = same_first f in
     let parts : nodes ≡ here ++ own = n ∙ laid_inner x xs own in
     let inner : set ≡ own = back ∙ ap (λ m. drop m nodes) at ∙ ap (drop (length here)) parts ∙ drop-append_seam here own in
     let outer : kept ≡ laid xs x.before ++ x.holder ∷ [] =
@@ -160,7 +170,7 @@ inner_ends {limit} {first} {mid} {now} k rest nodes kept set new (x ∷ xs, own,
     let there = own_some (x ∷ xs) own nodes (k ∷ rest) f n some in (
       xs,
       x.before ++ node ∷ [],
-      cc,
+      same_others f,
       grown ∙ sym (laid_more xs x.before (node ∷ [])),
       set_ended limit x xs own node first mid now there s t (is ∙ ap (λ zs. given_set (selection_seen x.holder) (nodes_seen zs) (last_end_of now)) inner),
       leaves_then l (rests_some (length xs) (x.before ++ node ∷ []) (not_none x.before node) (set_closed {b = now} (suc (length xs)) own there t)),

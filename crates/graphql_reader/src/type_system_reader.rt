@@ -53,7 +53,8 @@ pub fn read_type_system_within<'a>(
     let mut tokens = Tokens::new(alloc, text.as_bytes());
     let mut definitions = Vec::new(alloc);
     for _ in 0..tokens.bound() {
-        definitions.push(read_definition(&mut tokens, max_depth)?)?;
+        let definition = read_definition(&mut tokens, max_depth)?;
+        definitions.push(definition)?;
         if tokens.is_at_end() {
             return Ok(definitions);
         }
@@ -135,7 +136,8 @@ fn read_roots<'a>(tokens: &mut Tokens<'a>) -> Result<Vec<RootOperationType<'a>>,
     tokens.expect(Punctuator::BraceOpen, "{")?;
     let mut roots = Vec::new(tokens.alloc());
     for _ in 0..tokens.bound() {
-        roots.push(read_root(tokens)?)?;
+        let root = read_root(tokens)?;
+        roots.push(root)?;
         if tokens.take(Punctuator::BraceClose) {
             return Ok(roots);
         }
@@ -261,7 +263,8 @@ fn read_names<'a>(
     tokens.take(between);
     let mut names = Vec::new(tokens.alloc());
     for _ in 0..tokens.bound() {
-        names.push(tokens.name("a type's name")?)?;
+        let name = tokens.name("a type's name")?;
+        names.push(name)?;
         if !tokens.take(between) {
             return Ok(names);
         }
@@ -278,7 +281,8 @@ fn read_fields<'a>(
         return Ok(fields);
     }
     for _ in 0..tokens.bound() {
-        fields.push(read_field_definition(tokens, max_depth)?)?;
+        let field = read_field_definition(tokens, max_depth)?;
+        fields.push(field)?;
         if tokens.take(Punctuator::BraceClose) {
             return Ok(fields);
         }
@@ -341,7 +345,8 @@ fn read_input_values<'a>(
         return Ok(values);
     }
     for _ in 0..tokens.bound() {
-        values.push(read_input_value(tokens, max_depth)?)?;
+        let value = read_input_value(tokens, max_depth)?;
+        values.push(value)?;
         if tokens.take(close) {
             return Ok(values);
         }
@@ -377,7 +382,8 @@ fn read_enum_values<'a>(
         return Ok(values);
     }
     for _ in 0..tokens.bound() {
-        values.push(read_enum_value(tokens, max_depth)?)?;
+        let value = read_enum_value(tokens, max_depth)?;
+        values.push(value)?;
         if tokens.take(Punctuator::BraceClose) {
             return Ok(values);
         }
@@ -434,7 +440,8 @@ fn read_locations<'a>(
     tokens.take(Punctuator::Pipe);
     let mut locations = Vec::new(tokens.alloc());
     for _ in 0..tokens.bound() {
-        locations.push(read_location(tokens)?)?;
+        let location = read_location(tokens)?;
+        locations.push(location)?;
         if !tokens.take(Punctuator::Pipe) {
             return Ok(locations);
         }

@@ -1,5 +1,5 @@
 -- The escape at the front of a text is what the scanner takes for it.
-use Rattle.std.proofs.Common.{◌≡◌, ◌<◌, ◌≤◌, ◌+◌, ◌-◌, ℕ, suc, List, [], ◌∷◌, ◌++◌, Bool, true, false, not, ◌&&◌, ◌==◌, if◌then◌else◌, Option, Some, None, Result, Ok, Err, length, take, drop, get_or, refl, sym, ap, subst, ◌∙◌, arith, append_assoc}
+use Rattle.std.proofs.Common.{◌≡◌, ◌<◌, ◌≤◌, ◌+◌, ◌*◌, ◌-◌, ℕ, suc, List, [], ◌∷◌, ◌++◌, Bool, true, false, not, ◌&&◌, ◌==◌, if◌then◌else◌, Option, Some, None, Result, Ok, Err, length, take, drop, get_or, refl, sym, ap, subst, ◌∙◌, arith, append_assoc}
 use Rattle.std.proofs.lemmas.List.{length-append}
 use Rattle.std.proofs.lemmas.Bool.Decides.{nat_tests}
 use Rattle.std.specs.Char.{IsScalar, digit_value}
@@ -122,6 +122,36 @@ scalar_not_high u h = grind (arith, nat_tests)
 
 scalar_not_low : (u : ℕ) → IsScalar u → is_low_surrogate u ≡ false
 scalar_not_low u h = grind (arith, nat_tests)
+
+-- ---- what the reader of digits found is the code unit
+abbrev pub IsDigitAt : List ℕ → ℕ → ℕ → Type 0
+IsDigitAt text n d = (d ≡ digit_value (at text n)) × (d < 16) × (n < length text)
+
+abbrev pub IsMissingAt : List ℕ → ℕ → ℕ → Type 0
+IsMissingAt text n e = (is_hex (at text n) ≡ false) × (e ≡ n)
+
+hex_digit : (text : List ℕ) (n : ℕ) {d : ℕ} → IsDigitAt text n d → is_hex (at text n) ≡ true
+hex_digit text n h = grind (arith, nat_tests)
+
+pub first_missing : (text : List ℕ) (n : ℕ) {e : ℕ} → IsMissingAt text n e → unit_at text n ≡ Err e
+unfolding unit_at
+first_missing text n h = rw (h.0, h.1) refl
+
+pub second_missing : (text : List ℕ) (n : ℕ) {a e : ℕ} → IsDigitAt text n a → IsMissingAt text (n + 1) e → unit_at text n ≡ Err e
+unfolding unit_at
+second_missing text n h i = rw (hex_digit text n h, i.0, i.1) refl
+
+pub third_missing : (text : List ℕ) (n : ℕ) {a b e : ℕ} → IsDigitAt text n a → IsDigitAt text (n + 1) b → IsMissingAt text (n + 2) e → unit_at text n ≡ Err e
+unfolding unit_at
+third_missing text n h i j = rw (hex_digit text n h, hex_digit text (n + 1) i, j.0, j.1) refl
+
+pub fourth_missing : (text : List ℕ) (n : ℕ) {a b c e : ℕ} → IsDigitAt text n a → IsDigitAt text (n + 1) b → IsDigitAt text (n + 2) c → IsMissingAt text (n + 3) e → unit_at text n ≡ Err e
+unfolding unit_at
+fourth_missing text n h i j k = rw (hex_digit text n h, hex_digit text (n + 1) i, hex_digit text (n + 2) j, k.0, k.1) refl
+
+pub four_digits : (text : List ℕ) (n : ℕ) {a b c d : ℕ} → IsDigitAt text n a → IsDigitAt text (n + 1) b → IsDigitAt text (n + 2) c → IsDigitAt text (n + 3) d → unit_at text n ≡ Ok (a * 4096 + b * 256 + c * 16 + d)
+unfolding unit_at
+four_digits text n h i j k = rw (hex_digit text n h, hex_digit text (n + 1) i, hex_digit text (n + 2) j, hex_digit text (n + 3) k, h.0, i.0, j.0, k.0) refl
 
 -- ---- what the scanner found is an escape
 and_then_found : {A B : Type 0} (o : Result A ℕ) (next : A → Result B ℕ) (r : B) → and_then o next ≡ Ok r → (x : A) × (o ≡ Ok x) × (next x ≡ Ok r)

@@ -113,7 +113,6 @@ fn second_half_expected(text: &[u8], passed: usize) -> Refusal
 }
 
 // The number that the four hexadecimal digits at an index write.
-#[tactic(auto, unfolding(crate::specs::Unescaping::unit_at))]
 fn unit_at(text: &[u8], index: usize) -> Result<u32, Refusal>
     requires near { index ≤ 8 }
     requires within { index ≤ length text.now }
