@@ -1,6 +1,5 @@
 //! A depth-first search for cycles: each node is new, in work or finished.
-ghost use Rattle.std.specs.Prelude.{◌≡◌, ◌≢◌, ◌<◌, ◌++◌, ◌∷◌, [], length, Some, OnOk, IfOk, slice_get, map};
-ghost use Rattle.std.specs.List.{All};
+ghost use Rattle.std.specs.Prelude.{◌≡◌, ◌≢◌, ◌<◌, ◌++◌, ◌∷◌, [], length, Some, OnOk, IfOk, slice_get, map, replicate};
 ghost use Rattle.fragment_graph.specs.Graph.{spreads_of};
 ghost use Rattle.fragment_graph.specs.Sound.{SoundAlong, IsSound, IsSoundTo, Keeps, steps_left};
 ghost use Rattle.fragment_graph.specs.Searched.{Searched, rank_of};
@@ -158,14 +157,9 @@ fn run(graph: &[Node], search: &mut Search) -> Result<(), AllocError>
 
 // The state of each node at the start.
 fn new_colours(alloc: Global, graph: &[Node]) -> Result<Vec<Colour>, AllocError>
-    ensures len { IfOk result (λ v. length v.items ≡ length graph.now) }
-    ensures new { IfOk result (λ v. All (λ c. c ≡ New) v.items) }
+    ensures { IfOk result (λ v. v.items ≡ replicate (length graph.now) New) }
 {
-    let mut colours = Vec::with_capacity(alloc, graph.len())?;
-    for _node in graph {
-        colours.push(Colour::New)?;
-    }
-    Ok(colours)
+    vec![in alloc; Colour::New; graph.len()]
 }
 
 // The rank of a finished node.

@@ -5,6 +5,12 @@ use Rattle.name_tables.specs.Maps.{entries_of}
 use Rattle.fragment_graph.proofs.Numbering.{yes_self}
 use Rattle.fragment_graph.proofs.names.add_name.Goals as goal
 
+pub returns-in-Some-clause-adds : goal.returns-in-Some-clause-adds
+returns-in-Some-clause-adds c = c.in_ok-earlier.ensures.adds
+
+pub returns-in-None-clause-adds : goal.returns-in-None-clause-adds
+returns-in-None-clause-adds c = c.in_ok-earlier.ensures.adds
+
 pub returns-in-Some-clause-index : goal.returns-in-Some-clause-index
 returns-in-Some-clause-index c =
     let name = c.args.name.now in

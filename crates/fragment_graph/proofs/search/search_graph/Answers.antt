@@ -1,5 +1,7 @@
 use Rattle.std.proofs.Common.{◌≡◌, ◌<◌, ◌++◌, ◌∷◌, [], length, Some, slice_get, ℕ, ◌+◌, List, sym, subst, ap, arith, below_more, refl, ◌∙◌}
-use Rattle.std.proofs.lemmas.List.Elements.{All-contains}
+use Rattle.std.specs.List.{All}
+use Rattle.std.proofs.lemmas.List.{length-replicate}
+use Rattle.std.proofs.lemmas.List.Elements.{All-contains, All-replicate}
 use Rattle.fragment_graph.specs.declared.search.Step.{Step}
 use Rattle.fragment_graph.specs.declared.search.Report.{Report}
 use Rattle.fragment_graph.specs.declared.search.Colour.{Colour}
@@ -12,11 +14,14 @@ use Rattle.fragment_graph.proofs.search.search_graph.Goals as goal
 
 pub loop-root-init : goal.loop-root-init
 loop-root-init c =
-    let cs = c.in_ok-new_colours.field-0.items in (
+    let cs = c.in_ok-new_colours.field-0.items in
+    let n = length c.args.graph.now in
+    let all = c.in_ok-new_colours.ensures in
+    let new = subst (All (λ z. z ≡ New)) (sym all) (All-replicate (λ z. z ≡ New) n New refl) in (
       subst (λ (zs : List ℕ). Sound c.args.graph.now [] [] cs zs c.new-2.result.items 0) (sym c.in_ok-with_capacity.ensures.items)
           (subst (λ (zs : List Report). Sound c.args.graph.now [] [] cs [] zs 0) (sym c.new-2.ensures.items)
-          (sound_start c.args.graph.now cs c.in_ok-new_colours.ensures.len
-          (λ v k g. All-contains (λ z. z ≡ New) cs k c.in_ok-new_colours.ensures.new (contains_at cs v k g)))),
+          (sound_start c.args.graph.now cs (ap length all ∙ length-replicate n New)
+          (λ v k g. All-contains (λ z. z ≡ New) cs k new (contains_at cs v k g)))),
       c.new.ensures.items,
       λ v l. absurd (omega (arith, l)),
     )
