@@ -15,7 +15,8 @@ unreachable-requires g c =
 
 pub returns-clause-made : goal.returns-clause-made
 returns-clause-made g c =
-    (sym (ap (λ k. type_in k c.args.schema.now) c.innermost_name.ensures) ∙ sym c.concrete_type_by_name.ensures ∙ ap option_copied c.in-Some.is, c.modifiers.ensures)
+    let named = sym (ap (λ k. type_in k c.args.schema.now) c.innermost_name.ensures) in
+    (named ∙ sym c.concrete_type_by_name.ensures ∙ ap option_copied c.in-Some.is, c.modifiers.ensures)
 
 pub returns-clause-known : goal.returns-clause-known
 returns-clause-known g c = (argument_type c.args.field.now, sym (ap (λ k. type_in k c.args.schema.now) c.innermost_name.ensures) ∙ sym c.concrete_type_by_name.ensures ∙ ap option_copied c.in-Some.is)

@@ -16,13 +16,13 @@ use Rattle.literals.proofs.BegunLaws.{all_more, leads_as, leads_begun, leads_her
 use Rattle.literals.proofs.ObjectLaws.{says_items}
 use Rattle.literals.proofs.judged.begin.Goals as goal
 
-module _ {S : Type 0} (value : InputValue S) (no : (xs : Vec (Spanning (InputValue S) Span) Global) → value ≡ variant.List xs → ⊥) where
+module _ {S : Type 0} (value : InputValue S) (none : (xs : Vec (Spanning (InputValue S) Span) Global) → value ≡ variant.List xs → ⊥) where
   unlisted_at : (x : v.InputValue-F S (InputValue S)) → value ≡ roll-InputValue S x → is_some (items_layer x) ≡ true → ⊥
   unlisted_at v.Null e l = cc
   unlisted_at (v.Scalar s) e l = cc
   unlisted_at (v.Enum s) e l = cc
   unlisted_at (v.Variable s) e l = cc
-  unlisted_at (v.List xs) e l = no xs (e ∙ variant.rolls-List xs)
+  unlisted_at (v.List xs) e l = none xs (e ∙ variant.rolls-List xs)
   unlisted_at (v.Object s) e l = cc
 
   -- what is no list has no items
