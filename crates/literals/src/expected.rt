@@ -23,7 +23,6 @@ pub enum Expected<'t, 'a, S, C> {
 }
 
 /// The outermost layer of a type.
-#[derive_where(Clone, Copy)]
 pub enum Layer<'t, 'a, S, C> {
     Plain(&'a MetaTypeOf<S, C>),
     NonNull(Expected<'t, 'a, S, C>),

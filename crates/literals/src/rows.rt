@@ -15,7 +15,6 @@ use meta::check::CheckedScalar;
 use meta::kinds::MetaTypeOf;
 
 /// The case of a value and a type, after the modifiers that the value passes are removed.
-#[derive_where(Clone, Copy)]
 pub enum Row<'t, 'a, S, C> {
     /// The value conforms, whatever its items are.
     Conforms,
@@ -30,7 +29,6 @@ pub enum Row<'t, 'a, S, C> {
 }
 
 /// What the outermost layer of a type does with a value.
-#[derive_where(Clone, Copy)]
 pub enum Step<'t, 'a, S, C> {
     /// It decides the case.
     Decides(Row<'t, 'a, S, C>),

@@ -1,4 +1,5 @@
-use Rattle.std.proofs.Common.{◌≡◌, ◌∷◌, string_bytes, option_map}
+use Rattle.std.proofs.Common.{◌≡◌, ◌∷◌, None, refl, subst, sym, string_bytes, option_map}
+use Rattle.std.proofs.lemmas.List.{nil_from_length}
 use Rattle.std.proofs.lemmas.Result.{IfOk-weaker, on_ok_weaker}
 use Rattle.language_values.specs.ValuesPrinted.{printed_value}
 use Rattle.literals.specs.Begun.{IsKnown}
@@ -6,7 +7,7 @@ use Rattle.literals.specs.declared.begun.Begun.TheVariants as b
 use Rattle.literals.specs.Expected.{expected_type}
 use Rattle.literals.specs.FirstFault.{FirstFault}
 use Rattle.literals.specs.Judged.{IsNone, Judged}
-use Rattle.literals.proofs.BegunLaws.{all_more, items_after, leads_into}
+use Rattle.literals.proofs.BegunLaws.{all_more, items_after, leads_here, leads_into}
 use Rattle.literals.proofs.judged.begin_item.Goals as goal
 
 pub returns-in_ok-push-in-Some-clause-leads : goal.returns-in_ok-push-in-Some-clause-leads
@@ -27,3 +28,15 @@ pub returns-in_ok-push-in-Some-clause-known : goal.returns-in_ok-push-in-Some-cl
 returns-in_ok-push-in-Some-clause-known g c =
     let schema = c.args.schema.now in
     on_ok_weaker c.begin.result (λ h all. h (all_more (IsKnown schema) c.args.begun.now.items c.push.new.self.items (b.Items c.args.inner c.in-Some.rest) c.in_ok-push-in-Some.ensures.items c.requires.known all)) c.begin.ensures.known
+
+pub returns-in-None-clause-leads : goal.returns-in-None-clause-leads
+returns-in-None-clause-leads g c =
+    let may = g.S.CheckedScalar.may_answer in
+    let shown = printed_value g.S.ScalarValue.text g.S.ScalarValue.str_of in
+    let schema = c.args.schema.now in
+    let told = FirstFault (λ x. Judged schema may shown x.item (expected_type c.args.inner)) IsNone in
+    leads_here schema may shown c.args.begun.now.items None (told c.args.items.now)
+    (subst (λ es. told es None) (sym (nil_from_length c.args.items.now c.in-None.ensures.cases)) refl)
+
+pub returns-in-None-clause-known : goal.returns-in-None-clause-known
+returns-in-None-clause-known g c = λ all. all

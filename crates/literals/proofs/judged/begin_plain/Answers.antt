@@ -1,4 +1,4 @@
-use Rattle.std.proofs.Common.{Some, None, refl, sym, ◌∙◌, ap, subst, string_bytes, option_map}
+use Rattle.std.proofs.Common.{Some, None, Result, Ok, Err, OnOk, refl, sym, ◌∙◌, ap, subst, string_bytes, option_map}
 use Rattle.std.proofs.lemmas.Result.{IfOk-weaker}
 use Rattle.language_values.specs.declared.value.InputValue.TheOpen as v
 use Rattle.language_values.specs.declared.value.InputValue.TheVariants as variant
@@ -9,6 +9,11 @@ use Rattle.literals.specs.Judged.{Judged, ObjectFault}
 use Rattle.literals.proofs.BegunLaws.{all_more, leads_begun, leads_here}
 use Rattle.literals.proofs.ObjectLaws.{by_check, input_object, no_object, otherwise, plain_row}
 use Rattle.literals.proofs.judged.begin_plain.Goals as goal
+
+-- what is known stays so
+kept_ok : {T E : Type 0} (P : Type 0) (r : Result T E) → OnOk r (P → P)
+kept_ok P (Ok x) = λ p. p
+kept_ok P (Err e) = tt
 
 pub returns-in-Null-clause-leads : goal.returns-in-Null-clause-leads
 returns-in-Null-clause-leads g c =
@@ -97,3 +102,24 @@ returns-in_ok-no_object_fault-in-Object-clause-leads g c =
 
 pub returns-in_ok-push-in-Object-clause-known : goal.returns-in_ok-push-in-Object-clause-known
 returns-in_ok-push-in-Object-clause-known g c = λ all. all_more (IsKnown c.args.schema.now) c.args.begun.now.items _ _ c.in_ok-push-in-Object.ensures.items c.requires.known all
+
+pub returns-in-Null-clause-known : goal.returns-in-Null-clause-known
+returns-in-Null-clause-known g c = λ all. all
+
+pub returns-in-Variable-clause-known : goal.returns-in-Variable-clause-known
+returns-in-Variable-clause-known g c = λ all. all
+
+pub returns-in-Scalar-clause-known : goal.returns-in-Scalar-clause-known
+returns-in-Scalar-clause-known g c = kept_ok _ c.fault_of_scalar.result
+
+pub returns-in-Enum-clause-known : goal.returns-in-Enum-clause-known
+returns-in-Enum-clause-known g c = kept_ok _ c.ask.result
+
+pub returns-in-List-clause-known : goal.returns-in-List-clause-known
+returns-in-List-clause-known g c = kept_ok _ c.fault_of_list.result
+
+pub returns-then-takes_any-clause-known : goal.returns-then-takes_any-clause-known
+returns-then-takes_any-clause-known g c = kept_ok _ c.ask-then-takes_any.result
+
+pub returns-in_ok-no_object_fault-in-Object-clause-known : goal.returns-in_ok-no_object_fault-in-Object-clause-known
+returns-in_ok-no_object_fault-in-Object-clause-known g c = λ all. all

@@ -7,6 +7,9 @@ use Rattle.literals.specs.Judged.{WrittenFault, written_type}
 use Rattle.literals.proofs.WrittenLaws.{fault_at, one_written}
 use Rattle.literals.proofs.written.validate_written_value.Goals as goal
 
+pub fault_of-requires : goal.fault_of-requires
+fault_of-requires g c = record { known = c.in-Some.ensures.known }
+
 pub returns-in-None : goal.returns-in-None
 returns-in-None g c =
     let schema = c.args.schema.now in
