@@ -1,5 +1,6 @@
 pub mod Adding
 pub mod Asking
+pub mod Budgets
 pub mod Clearing
 pub mod Falls
 pub mod Flips

@@ -6,11 +6,12 @@ use Rattle.std.proofs.lemmas.List.Sums.{sum_by-drop_more}
 use Rattle.std.proofs.lemmas.Nat.{mul-le}
 use Rattle.std.proofs.lemmas.Option.{slice_get-get_or}
 use Rattle.merge_sets.specs.declared.node.Entry.{Entry}
+use Rattle.merge_sets.specs.declared.finding.Finding.{Finding}
 use Rattle.merge_search.specs.declared.state.Search.{Search}
 use Rattle.merge_sets.specs.Graph.{Falling}
-use Rattle.merge_search.specs.State.{CountsFields}
+use Rattle.merge_search.specs.State.{CountsFields, Reports}
 use Rattle.merge_search.specs.Spending.{Compares, ComparesUpto, LooksFlatly, list_cost, open_cost, pair_cost, settle_cost}
-use Rattle.merge_search.specs.Weight.{below_weight, weight}
+use Rattle.merge_search.specs.Weight.{below_weight, field_weight, weight}
 use Rattle.merge_sets.specs.World.{World, own_of}
 use Rattle.merge_search.proofs.Weights.{length_weight, own_weight}
 use Rattle.merge_sets.proofs.OneName.{no_entry}
@@ -46,6 +47,25 @@ module _ (w : World) (falling : Falling w.sets w.fragments) where
     searched = flat.all.searched ∙ one.keeps.searched;
     repeated = flat.all.repeated ∙ one.repeated;
   }
+
+-- two fields of which nothing more was looked at
+pub settle_once : (w : World) (a b : Entry) (s t : Search) → CountsFields 1 s t → Compares (settle_cost w a b true) s t
+settle_once w a b s t one = record {
+  judged = omega (arith, one.judged, mul-le 1 1 (field_weight w a) (field_weight w b) (omega arith) (omega arith));
+  pairs = one.keeps.pairs;
+  searched = one.keeps.searched;
+  repeated = one.repeated;
+}
+
+-- nor after they were reported
+pub settle_told : {y : Finding} (w : World) (a b : Entry) (s t u : Search) → CountsFields 1 s t → Reports y t u
+    → Compares (settle_cost w a b true) s u
+settle_told w a b s t u one told = record {
+  judged = omega (arith, told.judged, (settle_once w a b s t one).judged);
+  pairs = told.pairs ∙ one.keeps.pairs;
+  searched = told.searched ∙ one.keeps.searched;
+  repeated = told.repeated ∙ one.repeated;
+}
 
 module _ (w : World) (a : Entry) (fields : List Entry) where
   -- a field and those from a place on: the one there, and the rest

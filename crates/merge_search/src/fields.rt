@@ -119,8 +119,9 @@ pub(crate) fn next_with<J: Judge>(
     if k >= fields.len() {
         return Ok(());
     }
+    let b = fields[k];
     wait(tasks, Task::With(a, j, e, k + 1), fields.len() - (k + 1))?;
-    begin_below(graph, a, fields[k], e, tasks, search)?;
+    begin_below(graph, a, b, e, tasks, search)?;
     Ok(())
 }
 

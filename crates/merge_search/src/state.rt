@@ -194,5 +194,8 @@ pub fn count_list(search: &mut Search, opened: usize, looked: u128)
 pub fn is_full<J: Judge>(graph: &Graph<J>, search: &Search) -> bool
     ensures { OnTrue result (HasRoom (world J.judgement graph.now) search.now.found.items → ⊥) }
 {
-    graph.limit != 0 && search.found.len() >= graph.limit
+    if graph.limit == 0 {
+        return false;
+    }
+    search.found.len() >= graph.limit
 }

@@ -1,4 +1,4 @@
-use Rattle.std.proofs.Common.{◌≡◌, ◌+◌, ◌<◌, ◌≤◌, arith, drop, length, get_or, rules, slice_get, Some, subst, sym}
+use Rattle.std.proofs.Common.{◌≡◌, ◌+◌, ◌<◌, ◌≤◌, arith, drop, length, get_or, slice_get, Some, subst, sym}
 use Rattle.merge_sets.proofs.OneName.{no_entry}
 use Rattle.std.proofs.lemmas.Option.{slice_get-get_or}
 use Rattle.merge_search.specs.declared.task.Task.TheVariants.{Listed, Rows}
@@ -20,7 +20,7 @@ returns-then-k-left-clause-turns g c =
     let left = c.as_slice-left.result.now in
     leads_done v (Meets v (Rows rows c.args.e c.args.k)) _ (λ knows.
     subst (λ xs. MeetsBoth v c.args.e xs (rights_of rows) c.args.k c.args.search.now c.args.search.now) c.as_slice-left.ensures.value
-    (both_end v c.args.e left (rights_of rows) c.args.k c.args.search.now (search rules)))
+    (both_end v c.args.e left (rights_of rows) c.args.k c.args.search.now (omega arith)))
 
 pub returns-clause-turns : goal.returns-clause-turns
 returns-clause-turns g c =
@@ -31,7 +31,7 @@ returns-clause-turns g c =
     let rights = rights_of rows in
     let left = c.as_slice-left.result.now in
     let is = c.as_slice-left.ensures.value in
-    let less : k < length left = search rules in
+    let less : k < length left = omega arith in
     let a : Entry = get_or left k no_entry in
     let s = c.args.search.now in
     let m : Search = c.ask_others.new.search in
@@ -53,7 +53,7 @@ returns-clause-pays g c =
     let others = c.in_ok-others.others.items in
     let left = c.as_slice-left.result.now in
     let is = c.as_slice-left.ensures.value in
-    let less : k < length left = search rules in
+    let less : k < length left = omega arith in
     let a : Entry = get_or left k no_entry in
     let counts = c.in_ok-others.ensures.counts in
     let one : list_cost v a others ≤ list_cost v a rights = c.in_ok-others.ensures.once (pair_cost v a) in

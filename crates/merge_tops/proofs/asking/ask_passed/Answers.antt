@@ -1,0 +1,12 @@
+use Rattle.std.proofs.Common.{arith}
+use Rattle.merge_sets.proofs.Laws.{on_true_weaker}
+use Rattle.merge_search.proofs.Budgets.{asks_upto, counts_one}
+use Rattle.merge_tops.proofs.asking.ask_passed.Goals as goal
+
+pub returns-clause-counts : goal.returns-clause-counts
+returns-clause-counts g c = asks_upto _ _ _ _ c.count_fields.ensures (omega arith)
+
+pub returns-clause-ticks : goal.returns-clause-ticks
+returns-clause-ticks g c =
+    on_true_weaker c.are_passed-is_passed.result (λ ticks some. counts_one _ _ _ c.count_fields.ensures (omega (arith, ticks some)))
+    c.are_passed-is_passed.ensures.ticks
