@@ -3,6 +3,7 @@ pub mod EventValue
 pub mod Node
 pub mod Occurrence
 pub mod Outline
+pub mod Place
 pub mod SchemaView
 pub mod TypedEvent
 pub mod Typing

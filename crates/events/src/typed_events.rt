@@ -175,55 +175,55 @@ fn type_of_root<'a, S, C>(
 }
 
 impl<'a, S, C> TypesOf<'a, S, C> {
-    // At an operation of a kind.
-    pub(crate) fn at_operation(self, schema: &'a SchemaTypeOf<S, C>, kind: OperationType) -> Self
-        ensures { typing_of result ≡ at_type schema.now (typing_of self.entry) (root_literal schema.now kind) }
+    // To those at an operation of a kind.
+    pub(crate) fn go_to_operation(&mut self, schema: &'a SchemaTypeOf<S, C>, kind: OperationType)
+        ensures { typing_of self.new ≡ at_type schema.now (typing_of self.old) (root_literal schema.now kind) }
     {
-        self.at_type(schema, type_of_root(schema, kind))
+        *self = self.at_type(schema, type_of_root(schema, kind));
     }
 
-    // At the definition of a fragment on a type.
-    pub(crate) fn at_named(self, schema: &'a SchemaTypeOf<S, C>, name: &'a str) -> Self
-        ensures { typing_of result ≡ at_type schema.now (typing_of self.entry) (Some (non_null_named name.now)) }
+    // To those at the definition of a fragment on a type.
+    pub(crate) fn go_to_named(&mut self, schema: &'a SchemaTypeOf<S, C>, name: &'a str)
+        ensures { typing_of self.new
+            ≡ at_type schema.now (typing_of self.old) (Some (non_null_named name.now)) }
     {
-        self.at_type(schema, Some(BorrowedType::non_null(name)))
+        *self = self.at_type(schema, Some(BorrowedType::non_null(name)));
     }
 
-    // At a field of the name.
-    pub(crate) fn at_field(self, schema: &'a SchemaTypeOf<S, C>, name: &str) -> Self
-        ensures { typing_of result
-            ≡ at_type schema.now (typing_of self.entry) (field_literal (typing_of self.entry).parent name.now) }
+    // To those at a field of the name.
+    pub(crate) fn go_to_field(&mut self, schema: &'a SchemaTypeOf<S, C>, name: &str)
+        ensures { typing_of self.new
+            ≡ at_type schema.now (typing_of self.old) (field_literal (typing_of self.old).parent name.now) }
     {
-        self.at_type(schema, type_of_field(self.parent, name))
+        *self = self.at_type(schema, type_of_field(self.parent, name));
     }
 
-    // At an inline fragment, with or without a condition.
-    pub(crate) fn at_condition(
-        self,
+    // To those at an inline fragment, with or without a condition.
+    pub(crate) fn go_to_condition(
+        &mut self,
         schema: &'a SchemaTypeOf<S, C>,
         condition: &'a Option<Spanning<&'a str>>,
-    ) -> Self
-        ensures { typing_of result
-            ≡ at_condition schema.now (typing_of self.entry) (option_map (λ c. c.item.now) condition.now) }
+    )
+        ensures { typing_of self.new
+            ≡ at_condition schema.now (typing_of self.old) (option_map (λ c. c.item.now) condition.now) }
     {
-        match condition {
-            Some(name) => self.at_named(schema, name.item),
-            None => self,
+        if let Some(name) = condition {
+            self.go_to_named(schema, name.item);
         }
     }
 
-    // At the definition of a variable of a type.
-    pub(crate) fn at_variable(self, variable: &'a VariableDefinition<'a, S>) -> Self
-        ensures { typing_of result ≡ at_variable (typing_of self.entry) variable.now }
+    // To those at the definition of a variable of a type.
+    pub(crate) fn go_to_variable(&mut self, variable: &'a VariableDefinition<'a, S>)
+        ensures { typing_of self.new ≡ at_variable (typing_of self.old) variable.now }
     {
-        self.at_input(Some(variable.var_type.item.as_borrowed()))
+        *self = self.at_input(Some(variable.var_type.item.as_borrowed()));
     }
 
-    // At an argument of the name, whose type is looked up among these.
-    pub(crate) fn at_argument(self, arguments: Option<&'a [Argument<S>]>, name: &str) -> Self
-        ensures { typing_of result ≡ at_argument (option_copied arguments.entry) (typing_of self.entry) name.now }
+    // To those at an argument of the name, whose type is looked up among these.
+    pub(crate) fn go_to_argument(&mut self, arguments: Option<&'a [Argument<S>]>, name: &str)
+        ensures { typing_of self.new ≡ at_argument (option_copied arguments.entry) (typing_of self.old) name.now }
     {
-        self.at_input(type_of_argument(arguments, name))
+        *self = self.at_input(type_of_argument(arguments, name));
     }
 
     // At the items of a list.
@@ -233,10 +233,17 @@ impl<'a, S, C> TypesOf<'a, S, C> {
         self.at_input(type_of_items(self.input))
     }
 
-    // At the field of an object.
-    pub(crate) fn at_object_field(self, schema: &'a SchemaTypeOf<S, C>, key: &str) -> Self
-        ensures { typing_of result ≡ at_object_field schema.now (typing_of self.entry) key.now }
+    // To those at the field of an object.
+    pub(crate) fn go_to_object_field(&mut self, schema: &'a SchemaTypeOf<S, C>, key: &str)
+        ensures { typing_of self.new ≡ at_object_field schema.now (typing_of self.old) key.now }
     {
-        self.at_input(type_of_input_field(schema, self.input, key))
+        *self = self.at_input(type_of_input_field(schema, self.input, key));
+    }
+
+    // To those in the selection set of a node.
+    pub(crate) fn go_to_set(&mut self)
+        ensures { typing_of self.new ≡ at_set (typing_of self.old) }
+    {
+        *self = self.at_set();
     }
 }

@@ -1,18 +1,19 @@
-use Rattle.std.proofs.Common.{◌++◌, ap, ◌∙◌}
+use Rattle.std.proofs.lemmas.Result.{on_ok_weaker}
 use Rattle.events.specs.Node
 use Rattle.events.specs.Outline.{beside, outline_of_directives, outline_of_set}
-use Rattle.events.specs.TypedEvent.{events_of}
 use Rattle.events.specs.EventValue.{typing_of}
-use Rattle.events.specs.Cursor.{stack_events}
 use Rattle.events.proofs.Events.{two_parts, around_at}
 use Rattle.events.proofs.cursor.enter_inline.Goals as goal
 
 pub returns : goal.returns
 returns g c =
     let schema = c.args.schema.now in
-    let i = c.args.fragment.now in
-    let u = typing_of c.at_condition-inside.result in
-    around_at (Node.inline_fragment i) (λ w. beside (outline_of_directives schema w i.item.directives) (outline_of_set schema w i.item.selection_set.items)) _ _ _ _ _ c.at_condition-inside.ensures (c.in_ok-push_part.ensures schema)
-    (two_parts (outline_of_directives schema u i.item.directives) (outline_of_set schema u i.item.selection_set.items) _ _ _
-    (c.in_ok-push_part-2.ensures schema ∙ ap (λ xs. events_of (outline_of_set schema u xs) ++ stack_events schema c.push_part.new.frames.items) c.as_slice.ensures.value)
-    (c.in_ok-push_written_directives.ensures schema))
+    let f = c.args.fragment.now in
+    let u = typing_of c.go_to_condition.new.self in
+    on_ok_weaker c.push_written_directives.result
+    (λ h. around_at (Node.inline_fragment f) (λ w. beside (outline_of_directives schema w f.item.directives)
+    (outline_of_set schema w f.item.selection_set.items)) _ _ _ _ _
+    c.go_to_condition.ensures (c.in_ok-push_exit.ensures schema)
+    (two_parts (outline_of_directives schema u f.item.directives) (outline_of_set schema u f.item.selection_set.items) _ _ _
+    (c.in_ok-push_set.ensures schema) (h schema)))
+    c.push_written_directives.ensures

@@ -1,3 +1,4 @@
+use Rattle.std.proofs.lemmas.Result.{on_ok_weaker}
 use Rattle.events.specs.Node
 use Rattle.events.specs.Outline.{each, outline_of_selection}
 use Rattle.events.proofs.Events.{around_at}
@@ -5,4 +6,7 @@ use Rattle.events.proofs.cursor.enter_set.Goals as goal
 
 pub returns : goal.returns
 returns g c =
-    λ schema. around_at (Node.selection_set c.args.set.now) (λ u. each (outline_of_selection schema u) c.args.set.now) _ _ _ _ _ c.at_set-inside.ensures (c.in_ok-push_part.ensures schema) (c.in_ok-push_selections.ensures schema)
+    on_ok_weaker c.push_selections.result
+    (λ h schema. around_at (Node.selection_set c.args.set.now) (λ u. each (outline_of_selection schema u) c.args.set.now) _ _ _ _ _
+    c.go_to_set.ensures (c.in_ok-push_exit.ensures schema) (h schema))
+    c.push_selections.ensures

@@ -5,4 +5,5 @@ use Rattle.events.proofs.cursor.push_part.Goals as goal
 
 pub returns : goal.returns
 returns g c =
-    λ schema. ap (stack_events schema) c.in_ok-push.ensures.items ∙ stack-pushed schema c.args.frames.now.items (record { part = c.args.part; types = c.args.types })
+    λ schema. ap (stack_events schema) c.in_ok-push.ensures.items ∙ stack-pushed schema c.args.frames.now.items
+    (record { part = c.args.part; types = c.args.types.now })
