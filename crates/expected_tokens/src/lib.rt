@@ -9,8 +9,6 @@
 mod expected;
 mod questions;
 mod stops;
-#[cfg(test)]
-mod tests;
 
 pub use expected::{Expected, Keyword};
 pub use graphql_lexer::lexer::Punctuator;

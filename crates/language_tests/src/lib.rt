@@ -1,6 +1,8 @@
-//! Tests of the crates `language` and `sample_reader`.
+//! Tests of the crates `language`, `expected_tokens` and `sample_reader`.
 #![tactic(auto)]
 
+#[cfg(test)]
+mod expected;
 #[cfg(test)]
 mod faults;
 #[cfg(test)]

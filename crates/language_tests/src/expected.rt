@@ -1,5 +1,5 @@
 //! What goes on in small texts. The expected values are those of the grammar (section 2).
-use crate::{OutOfMemory, expected_tokens, goes_on};
+use expected_tokens::{OutOfMemory, expected_tokens, goes_on};
 use std::alloc::Global;
 use std::fmt::Write;
 
