@@ -1,6 +1,7 @@
 """What the scripts of this folder share: how each binding is built, tested and run over the library in out/lib."""
 import os
 import re
+import shlex
 import shutil
 import subprocess
 import sys
@@ -79,7 +80,7 @@ def runs(words, folder):
 def compiles(source, binary):
     """Whether a program in C is built against the library."""
     asked = subprocess.run(["pkg-config", "--cflags", "--libs", "vorxindak"], env=environment(), stdout=subprocess.PIPE)
-    flags = asked.stdout.decode().split()
+    flags = shlex.split(asked.stdout.decode())
     binary.parent.mkdir(parents=True, exist_ok=True)
     return asked.returncode == 0 and runs(["cc", "-O2", "-Wall", "-Wextra", "-Werror", source, *flags, "-o", binary], HERE / "c")
 

@@ -31,7 +31,7 @@ impl fmt::Display for Failure {
             Failure::NoVariables =>
                 "the input begins with no operation whose variables have input types",
             Failure::Usage =>
-                "usage: bench [--through MEGABYTES] <pets, number of input fields> READS WALKS VALUES, or <sdl, queries, schema, introspection> READS",
+                "usage: bench [--dialect <juniper, october2021>] [--through MEGABYTES] <pets, number of input fields> READS WALKS VALUES, or <sdl, queries, schema, introspection> READS",
             Failure::OutOfMemory => "out of memory",
             Failure::InputOutput => "input, output or the clock failed",
         })

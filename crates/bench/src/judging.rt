@@ -4,10 +4,12 @@ use crate::times::{Stopwatch, median_of};
 use std::alloc::Global;
 use std::rt::CpuClock;
 use std::time::Duration;
-use validation::{DefaultScalarValue, Definition, SchemaType, ValidatorContext, visit_all_rules};
+use validation::{
+    DefaultScalarValue, Definition, SchemaType, ValidatorContext, visit_dialect_rules,
+};
 
-/// Judges the document by all rules so often, and returns the median of the times in nanoseconds, or `None` for no
-/// times.
+/// Judges the document by all rules of the schema's dialect so often, and returns the median of the times in
+/// nanoseconds, or `None` for no times.
 ///
 /// # Errors
 ///
@@ -29,5 +31,5 @@ fn time_walk<'a, R: CpuClock>(
     document: &'a [Definition<'_, DefaultScalarValue>],
 ) -> Result<Duration, Failure> {
     let mut ctx = ValidatorContext::new(alloc, schema, document)?;
-    watch.time_of(|| Ok(visit_all_rules(&mut ctx, document)?))
+    watch.time_of(|| Ok(visit_dialect_rules(&mut ctx, document)?))
 }

@@ -17,7 +17,9 @@ use std::env::{self, Env};
 use std::io::{self, Read};
 use std::rt::CpuClock;
 use validation::meta::default_check::DefaultCheck;
-use validation::{DefaultScalarValue, Definition, SchemaType, ValidatorContext, visit_all_rules};
+use validation::{
+    DefaultScalarValue, Definition, Dialect, SchemaType, ValidatorContext, visit_dialect_rules,
+};
 
 /// How often each phase is to be done.
 #[derive(Clone, Copy, Debug)]
@@ -45,10 +47,34 @@ fn measure<R: CpuClock + Env + AllocGlobal + Print, I: Read>(
     input.read_to_end(&mut text)?;
     println!(rt; "bytes {}", text.len())?;
     match words.as_slice() {
-        [option, megabytes, words @ ..] if option.as_str() == "--through" => {
-            measure_words(rt, words, text.as_slice(), number(megabytes)?)
+        [option, name, words @ ..] if option.as_str() == "--dialect" => {
+            measure_through(rt, words, text.as_slice(), dialect_named(name.as_str())?)
         }
-        words => measure_words(rt, words, text.as_slice(), 0),
+        words => measure_through(rt, words, text.as_slice(), Dialect::Juniper),
+    }
+}
+
+/// The dialect of a name.
+fn dialect_named(name: &str) -> Result<Dialect, Failure> {
+    match name {
+        "juniper" => Ok(Dialect::Juniper),
+        "october2021" => Ok(Dialect::October2021),
+        _ => Err(Failure::Usage),
+    }
+}
+
+/// Measures what the words ask for, with a cold cache where they say so.
+fn measure_through<R: CpuClock + AllocGlobal + Print>(
+    rt: &R,
+    words: &[String],
+    text: &[u8],
+    dialect: Dialect,
+) -> Result<(), Failure> {
+    match words {
+        [option, megabytes, words @ ..] if option.as_str() == "--through" => {
+            measure_words(rt, words, text, number(megabytes)?, dialect)
+        }
+        words => measure_words(rt, words, text, 0, dialect),
     }
 }
 
@@ -58,6 +84,7 @@ fn measure_words<R: CpuClock + AllocGlobal + Print>(
     words: &[String],
     text: &[u8],
     megabytes: usize,
+    dialect: Dialect,
 ) -> Result<(), Failure> {
     let mut watch = Stopwatch::new(rt.alloc(), rt, megabytes)?;
     match words {
@@ -68,7 +95,7 @@ fn measure_words<R: CpuClock + AllocGlobal + Print>(
                 walks: number(walks)?,
                 values: number(values)?,
             };
-            measure_against(rt, &mut watch, schema.as_str(), text, times)
+            measure_against(rt, &mut watch, schema.as_str(), text, times, dialect)
         }
         _ => Err(Failure::Usage),
     }
@@ -117,6 +144,7 @@ fn measure_against<R: CpuClock + AllocGlobal + Print>(
     word: &str,
     text: &[u8],
     times: Times,
+    dialect: Dialect,
 ) -> Result<(), Failure> {
     tell_reading(rt, watch, Kind::Queries, text, times.reads)?;
     let checks = Checks {
@@ -139,13 +167,14 @@ fn measure_against<R: CpuClock + AllocGlobal + Print>(
         types.push(object(alloc, "QueryRoot", &[], root_fields(alloc)?)?)?;
         types
     };
-    let schema = SchemaType::<DefaultScalarValue>::new(
+    let mut schema = SchemaType::<DefaultScalarValue>::new(
         alloc,
         types,
         "QueryRoot",
         "_EmptyMutation",
         "_EmptySubscription",
     )?;
+    schema.set_dialect(dialect);
     measure_text(rt, watch, &schema, text, times)
 }
 
@@ -207,7 +236,7 @@ fn count_errors<'a>(
     document: &'a [Definition<'_, DefaultScalarValue>],
 ) -> Result<usize, Failure> {
     let mut ctx = ValidatorContext::new(alloc, schema, document)?;
-    visit_all_rules(&mut ctx, document)?;
+    visit_dialect_rules(&mut ctx, document)?;
     let errors = ctx.into_errors()?;
     Ok(errors.len())
 }

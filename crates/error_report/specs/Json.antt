@@ -6,6 +6,7 @@ use Rattle.language_types.specs.declared.position.SourcePosition.{SourcePosition
 use Rattle.language_types.specs.Position.{line_of}
 use Rattle.lint_sources.specs.ShownLines.{characters_before}
 use Rattle.lint_report.specs.Json.{number_member, text_member}
+use Rattle.lint_report.specs.JsonEscapes.{escaped}
 use Rattle.lint_report.specs.Texts.{from_one, line}
 use Rattle.walk.specs.ErrorValue.{ErrorValue}
 
@@ -35,6 +36,6 @@ error_tokens text error =
 abbrev pub report_tokens : List ℕ → List ErrorValue → List Token
 report_tokens text errors = begin_array ∷ flat_map (error_tokens text) errors ++ end_array ∷ []
 
--- the text: a line for each item and member
+-- the text: a line for each item and member; characters that are not printable are escaped
 abbrev pub report_text : List ℕ → List ErrorValue → List ℕ
-report_text text errors = line (pretty (report_tokens text errors))
+report_text text errors = escaped (line (pretty (report_tokens text errors)))

@@ -8,6 +8,7 @@ ghost use Rattle.lint_report.specs.Json.{number_member, text_member};
 use json::{Pretty, Token};
 use language_types::error::OutOfMemory;
 use language_types::position::SourcePosition;
+use lint_report::json_escapes::escaped;
 use lint_sources::text_places::characters_before;
 use std::alloc::{AllocError, Global};
 use walk::RuleError;
@@ -25,7 +26,7 @@ pub fn report(alloc: Global, text: &str, errors: &[RuleError]) -> Result<String,
     write_report(alloc, &mut out, text, errors)?;
     let mut written = text_of(out);
     written.push('\n')?;
-    Ok(written)
+    Ok(escaped(alloc, written.as_str())?)
 }
 
 // What was written, which is valid UTF-8.

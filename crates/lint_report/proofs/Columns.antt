@@ -1,13 +1,15 @@
 -- What fits into so many columns, as a text is taken apart.
-use Rattle.std.proofs.Common.{◌≡◌, ◌∙◌, ◌+◌, ◌-◌, ◌<◌, ◌≤◌, ℕ, Bool, IsUtf8, List, [], ◌∷◌, ◌++◌, append_assoc, append-nil, ap, arith, cond, drop, le-leb, length, length-append, refl, subst, sym, take}
+use Rattle.std.proofs.Common.{◌≡◌, ◌∙◌, ◌+◌, ◌-◌, ◌<◌, ◌≤◌, ℕ, Bool, IsUtf8, List, [], ◌∷◌, ◌++◌, append_assoc, append-nil, ap, arith, codes, cond, drop, le-leb, length, length-append, ne_eqb, refl, replicate, subst, sym, take}
 use Rattle.std.proofs.Math.Seq.{drop-append_seam, take-append_seam}
 use Rattle.std.proofs.Math.Utf8.{encode, encodes}
 use Rattle.std.proofs.lemmas.Bool.{lt-leb}
 use Rattle.std.proofs.lemmas.Str.{IsCharBoundary-at_seam, IsCharBoundary-from_take, IsUtf8-drop, chars-append, chars-nil, chars_from_encodes, chars_past_char, encodes-append}
+use Rattle.std.proofs.lemmas.Grind.{flat_map-append}
 use Rattle.std.specs.List.{slice_range}
 use Rattle.std.specs.Str.{IsCharBoundary, chars}
 use Rattle.lint_report.specs.Colours.{mark}
-use Rattle.lint_report.specs.Windows.{blanks, first_within, last_within, room_for, room_of, window}
+use Rattle.lint_report.specs.Printable.{printed, printed_all, printed_character}
+use Rattle.lint_report.specs.Windows.{blank_for, blanks, columns, first_within, last_within, room_for, room_of, window}
 use Rattle.lint_report.proofs.InARow.{five_added}
 
 room_of-append : (front rest : List ℕ) → room_of (front ++ rest) ≡ room_of front + room_of rest
@@ -142,17 +144,21 @@ taken_front text rest room left h =
 -- ---- a window
 
 pub window_added : (coloured : Bool) (before rest shown first : List ℕ) (room : ℕ) (old one two three four new : List ℕ)
-    → shown ≡ encodes (last_within 80 before) → IsUtf8 shown → room ≡ 120 - room_of (last_within 80 before) → first ≡ encodes (first_within room rest)
-    → one ≡ old ++ shown → two ≡ one ++ first → three ≡ two ++ 10 ∷ [] → four ≡ three ++ blanks (chars shown) → new ≡ four ++ mark coloured
+    → shown ≡ encodes (last_within 80 before) → IsUtf8 shown → room ≡ 120 - room_of (last_within 80 before) → first ≡ encodes (first_within room rest) → IsUtf8 first
+    → one ≡ old ++ printed shown → two ≡ one ++ printed first → three ≡ two ++ 10 ∷ [] → four ≡ three ++ blanks (chars shown) → new ≡ four ++ mark coloured
     → new ≡ old ++ window coloured before rest
-window_added coloured before rest shown first room old one two three four new shown_is utf8 room_is first_is a b c d e =
+window_added coloured before rest shown first room old one two three four new shown_is utf8 room_is first_is first_utf8 a b c d e =
     let front = last_within 80 before in
     let behind = first_within (120 - room_of front) rest in
     let characters : chars shown ≡ front = sym (chars_from_encodes front shown utf8 (sym shown_is)) in
-    let more = first_is ∙ ap (λ n. encodes (first_within n rest)) room_is in
-    five_added old one two three four new shown first (10 ∷ []) (blanks (chars shown)) (mark coloured) a b c d e
-    ∙ ap (λ cs. old ++ (shown ++ (first ++ 10 ∷ (blanks cs ++ mark coloured)))) characters
-    ∙ ap (λ t. old ++ (t ++ (first ++ 10 ∷ (blanks front ++ mark coloured)))) shown_is
-    ∙ ap (λ t. old ++ (encodes front ++ (t ++ 10 ∷ (blanks front ++ mark coloured)))) more
-    ∙ ap (λ t. old ++ t) (sym (append_assoc (encodes front) (encodes behind) (10 ∷ (blanks front ++ mark coloured)))
-    ∙ ap (λ t. t ++ 10 ∷ (blanks front ++ mark coloured)) (sym (encodes-append front behind)))
+    let more : chars first ≡ behind = sym (chars_from_encodes (first_within room rest) first first_utf8 (sym first_is)) ∙ ap (λ n. first_within n rest) room_is in
+    five_added old one two three four new (printed shown) (printed first) (10 ∷ []) (blanks (chars shown)) (mark coloured) a b c d e
+    ∙ ap (λ cs. old ++ (printed_all cs ++ (printed first ++ 10 ∷ (blanks cs ++ mark coloured)))) characters
+    ∙ ap (λ cs. old ++ (printed_all front ++ (printed_all cs ++ 10 ∷ (blanks front ++ mark coloured)))) more
+    ∙ ap (λ t. old ++ t) (sym (append_assoc (printed_all front) (printed_all behind) (10 ∷ (blanks front ++ mark coloured)))
+    ∙ ap (λ t. t ++ 10 ∷ (blanks front ++ mark coloured)) (sym (flat_map-append printed_character front behind)))
+
+-- blanks below a character of eight columns
+pub eight_blanks : (character n : ℕ) → (character ≡ 9 → ⊥) → n ≡ columns character → n ≡ 8 → codes "        " ≡ blank_for character
+eight_blanks character n is_other n_is eight =
+    ap (λ k. replicate k 32) (sym eight ∙ n_is) ∙ sym (ap (λ b. cond b (9 ∷ []) (replicate (columns character) 32)) (ne_eqb character 9 is_other))

@@ -7,8 +7,7 @@ use Rattle.lint_sources.specs.declared.issues.Issue.{Issue}
 use Rattle.lint_sources.specs.declared.sources.Place.{Place}
 use Rattle.lint_sources.specs.declared.sources.Source.{Source}
 use Rattle.lint_sources.specs.Issues.{file_count}
-use Rattle.lint_report.specs.Colours.{error_word}
-use Rattle.lint_report.specs.Texts.{Adds, AreNotes, AreTexts, IsErrorText, IsIssueText, IsNoteText, IsTextAt, IsTextReport, ShowsLine, last_line, line, told_place}
+use Rattle.lint_report.specs.Texts.{Adds, AreNotes, AreTexts, IsErrorText, IsIssueText, IsNoteText, IsTextAt, IsTextReport, ShowsLine, last_line, line, message_text, told_place}
 
 -- one item more
 each_more : {X Y : Type 0} (P : X → Y → Type 0) (xs : List X) (ys : List Y) (x : X) (y : Y) → AllZip P xs ys → P x y → AllZip P (xs ++ x ∷ []) (ys ++ y ∷ [])
@@ -44,15 +43,11 @@ all_texts P items n text all so_far = record {
 pub three_added : (old one two new a b c : List ℕ) → one ≡ old ++ a → two ≡ one ++ b → new ≡ two ++ c → new ≡ old ++ (a ++ b ++ c)
 three_added old one two new a b c first second third = third ∙ ap (λ t. t ++ c) (second ∙ ap (λ t. t ++ b) first ∙ append_assoc old a b) ∙ append_assoc old (a ++ b) c
 
--- four texts in a row
-pub four_added : (old one two new a b c d : List ℕ) → one ≡ old ++ a → two ≡ one ++ (b ++ c) → new ≡ two ++ d → new ≡ old ++ (a ++ b ++ c ++ d)
-four_added old one two new a b c d first second third = three_added old one two new a (b ++ c) d first second third ∙ ap (λ t. old ++ (t ++ d)) (sym (append_assoc a b c))
-
 -- an error is its place, its message and the line of the place
-pub error_added : (coloured : Bool) (sources : List Source) (place : Place) (message : List ℕ) (old one two new : List ℕ) → one ≡ old ++ told_place coloured sources place → two ≡ one ++ (error_word coloured ++ line message) → Adds (ShowsLine coloured sources place) two new → Adds (IsErrorText coloured sources place message) old new
+pub error_added : (coloured : Bool) (sources : List Source) (place : Place) (message : List ℕ) (old one two new : List ℕ) → one ≡ old ++ told_place coloured sources place → two ≡ one ++ message_text coloured message → Adds (ShowsLine coloured sources place) two new → Adds (IsErrorText coloured sources place message) old new
 error_added coloured sources place message old one two new placed told shown = record {
-  added = told_place coloured sources place ++ error_word coloured ++ line message ++ shown.added;
-  new_is = four_added old one two new (told_place coloured sources place) (error_word coloured) (line message) shown.added placed told shown.new_is;
+  added = told_place coloured sources place ++ message_text coloured message ++ shown.added;
+  new_is = three_added old one two new (told_place coloured sources place) (message_text coloured message) shown.added placed told shown.new_is;
   holds = record { below = shown.added; shows = shown.holds; text_is = refl };
 }
 

@@ -9,6 +9,10 @@ bold coloured = if coloured then 27 ∷ codes "[1m" else []
 abbrev pub plain : Bool → List ℕ
 plain coloured = if coloured then 27 ∷ codes "[0m" else []
 
+-- bold and red from here on
+abbrev pub red : Bool → List ℕ
+red coloured = if coloured then 27 ∷ codes "[1;31m" else []
+
 -- the word before an error's message, in bold red
 abbrev pub error_word : Bool → List ℕ
 error_word coloured = if coloured then 27 ∷ (codes "[1;31merror:" ++ (27 ∷ codes "[0m ")) else codes "error: "

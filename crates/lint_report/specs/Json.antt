@@ -9,6 +9,7 @@ use Rattle.lint_sources.specs.declared.issues.Issue.{Issue}
 use Rattle.lint_sources.specs.declared.sources.Place.{Place}
 use Rattle.lint_sources.specs.declared.sources.Source.{Source}
 use Rattle.lint_sources.specs.Sources.{path_in}
+use Rattle.lint_report.specs.JsonEscapes.{escaped}
 use Rattle.lint_report.specs.Texts.{line, told_column, told_line}
 
 -- a member with a text, and one with a number
@@ -49,6 +50,7 @@ abbrev pub report_tokens : List Fault → List Source → List Issue → List To
 report_tokens faults sources issues =
     begin_array ∷ flat_map fault_tokens faults ++ flat_map (issue_tokens sources) issues ++ end_array ∷ []
 
--- the text: a line for each item and member, indented by two spaces for each bracket
+-- the text: a line for each item and member, indented by two spaces for each bracket; characters that are not printable
+-- are escaped
 abbrev pub json_text : List Fault → List Source → List Issue → List ℕ
-json_text faults sources issues = line (pretty (report_tokens faults sources issues))
+json_text faults sources issues = escaped (line (pretty (report_tokens faults sources issues)))

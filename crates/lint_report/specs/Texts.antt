@@ -13,6 +13,7 @@ use Rattle.lint_sources.specs.Issues.{file_count}
 use Rattle.lint_sources.specs.ShownLines.{IsLineOf, characters_before}
 use Rattle.lint_sources.specs.Sources.{path_in, text_in}
 use Rattle.lint_report.specs.Colours.{bold, error_word, plain}
+use Rattle.lint_report.specs.Printable.{printed}
 use Rattle.lint_report.specs.Windows.{window}
 
 -- a text and the end of its line
@@ -30,10 +31,18 @@ told_line place = from_one (line_of place.position)
 abbrev pub told_column : List Source → Place → ℕ
 told_column sources place = from_one (characters_before (text_in sources place.file) place.position)
 
+-- a path, which may be bold
+abbrev pub path_text : Bool → List ℕ → List ℕ
+path_text coloured path = bold coloured ++ printed path ++ plain coloured
+
+-- a message behind the word before it
+abbrev pub message_text : Bool → List ℕ → List ℕ
+message_text coloured message = error_word coloured ++ line (printed message)
+
 -- what comes before a message: `path:line:column: `
 abbrev pub told_place : Bool → List Source → Place → List ℕ
 told_place coloured sources place =
-    bold coloured ++ path_in sources place.file ++ plain coloured ++ codes ":" ++ decimal (told_line place) ++ codes ":"
+    path_text coloured (path_in sources place.file) ++ codes ":" ++ decimal (told_line place) ++ codes ":"
     ++ decimal (told_column sources place) ++ codes ": "
 
 -- what comes before a column of a line, and the rest; nothing is left if no character begins there
@@ -54,7 +63,7 @@ pub record ShowsLine (coloured : Bool) (sources : List Source) (place : Place) (
 pub record IsErrorText (coloured : Bool) (sources : List Source) (place : Place) (message : List ℕ) (text : List ℕ) : Type 0 where
   pub below : List ℕ
   pub shows : ShowsLine coloured sources place below
-  pub text_is : text ≡ told_place coloured sources place ++ error_word coloured ++ line message ++ below
+  pub text_is : text ≡ told_place coloured sources place ++ message_text coloured message ++ below
 
 -- a note at a further place, and its line
 pub record IsNoteText (coloured : Bool) (sources : List Source) (place : Place) (text : List ℕ) : Type 0 where
@@ -84,7 +93,7 @@ pub record IsPlacedText (coloured : Bool) (sources : List Source) (first : Place
 -- an error at some places; one without a place has the path of its file alone
 abbrev pub IsTextAt : Bool → List Source → ℕ → List ℕ → List Place → List ℕ → Type 0
 IsTextAt coloured sources file message [] text =
-    text ≡ bold coloured ++ path_in sources file ++ plain coloured ++ codes ": " ++ error_word coloured ++ line message
+    text ≡ path_text coloured (path_in sources file) ++ codes ": " ++ message_text coloured message
 IsTextAt coloured sources file message (first ∷ others) text = IsPlacedText coloured sources first others message text
 
 abbrev pub IsIssueText : Bool → List Source → Issue → List ℕ → Type 0

@@ -1,12 +1,14 @@
 -- What is shown of a line round a place. Characters stand for themselves, as numbers.
-use Rattle.std.specs.Prelude.{◌==◌, ◌+◌, ◌-◌, ℕ, List, [], ◌∷◌, ◌++◌, Bool, encode_utf8_all, false, flat_map}
-use Rattle.std.specs.Prelude.{if◌then◌else◌, max, nat_le, replicate, unwrap_or}
+use Rattle.std.specs.Prelude.{◌==◌, ◌+◌, ◌-◌, ℕ, List, [], ◌∷◌, ◌++◌, Bool, false, flat_map}
+use Rattle.std.specs.Prelude.{if◌then◌else◌, length, max, nat_le, replicate, unwrap_or}
 use Rattle.lint_report.specs.Colours.{mark}
+use Rattle.lint_report.specs.Printable.{escape, is_printable, printed_all}
 use Rattle.unicode_width.specs.Width.{char_width}
 
--- the columns of a character; a control character has none
+-- the columns of a character; one that is not printable has those of its escape
 abbrev pub columns : ℕ → ℕ
-columns character = unwrap_or (char_width false character) 0
+columns character =
+    if is_printable character then unwrap_or (char_width false character) 0 else length (escape character)
 
 -- the columns that it may take of a window: a tab 8, and any other at least one
 abbrev pub room_for : ℕ → ℕ
@@ -46,4 +48,4 @@ blanks = flat_map blank_for
 -- the shown part of the line, and a mark below the place
 abbrev pub window : Bool → List ℕ → List ℕ → List ℕ
 window coloured before rest =
-    encode_utf8_all (shown_before before ++ shown_rest before rest) ++ (10 ∷ (blanks (shown_before before) ++ mark coloured))
+    printed_all (shown_before before ++ shown_rest before rest) ++ (10 ∷ (blanks (shown_before before) ++ mark coloured))

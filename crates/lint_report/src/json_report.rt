@@ -5,6 +5,7 @@ ghost use Rattle.json.specs.Layout.{pretty};
 ghost use Rattle.lint_report.specs.Json.{fault_tokens, issue_tokens, json_text, location_tokens, locations_tokens};
 ghost use Rattle.lint_report.specs.Json.{number_member, report_tokens, text_member, told_locations};
 
+use crate::json_escapes::escaped;
 use crate::text_report::{told_column, told_line};
 use json::{Pretty, Token};
 use language_types::error::OutOfMemory;
@@ -32,7 +33,7 @@ pub fn json_report(
     write_report(alloc, &mut out, faults, sources, issues)?;
     let mut text = text_of(out);
     text.push('\n')?;
-    Ok(text)
+    Ok(escaped(alloc, text.as_str())?)
 }
 
 // The whole text, which is valid UTF-8.

@@ -1,10 +1,14 @@
 //! Errors as text: each with its place, a window of its line, and a mark below the place.
-ghost use Rattle.std.specs.Prelude.{◌≡◌, ◌++◌, IfOk, OnOk, Some, string_bytes};
+ghost use Rattle.std.specs.Prelude.{◌≡◌, ◌+◌, ◌++◌, IfOk, OnOk, Some, string_bytes};
+ghost use Rattle.std.specs.List.{sum_by};
+ghost use Rattle.lint_report.specs.Lines.{HasLines, fault_lines, issue_lines};
 ghost use Rattle.lint_report.specs.Texts.{Adds, AreFaultTexts, AreNotes, IsErrorText, IsIssueText, IsNoteText};
 ghost use Rattle.lint_report.specs.Texts.{IsSplitAt, IsTextReport, ShowsLine, count_text, counts_text, last_line};
-ghost use Rattle.lint_report.specs.Texts.{summary_text, told_column, told_line, told_place, unjudged_text};
+ghost use Rattle.lint_report.specs.Texts.{message_text, path_text, summary_text, told_column, told_line, told_place};
+ghost use Rattle.lint_report.specs.Texts.{unjudged_text};
 
 use crate::colours::{bold, error_word, plain};
+use crate::printable::write_printed;
 use crate::windows::write_window;
 use language_types::error::OutOfMemory;
 use lint_sources::faults::Fault;
@@ -43,7 +47,9 @@ impl fmt::Display for Count<'_> {
 }
 
 /// The errors in order, and a last line that counts errors and files. `judged` files were validated, and `unjudged`
-/// files could not be. With colours paths are bold, and the words and marks of errors red.
+/// files could not be. With colours paths are bold, and the words and marks of errors red. An error takes three lines
+/// for each place, or a single one without a place. Of paths, messages and lines of files, characters that are not
+/// printable are written as escapes, as `\u{1b}`, so that no file adds a line or has a command for a terminal.
 ///
 /// # Errors
 ///
@@ -56,7 +62,9 @@ pub fn text_report(
     judged: usize,
     unjudged: usize,
 ) -> Result<String, OutOfMemory>
-    ensures { IfOk result (λ s. IsTextReport is_coloured sources.now issues.now judged unjudged (string_bytes s)) }
+    ensures told { IfOk result (λ s. IsTextReport is_coloured sources.now issues.now judged unjudged (string_bytes s)) }
+    ensures lines { IfOk result
+        (λ s. HasLines is_coloured (sum_by issue_lines issues.now + 1) (string_bytes s)) }
 {
     let mut text = String::new(alloc);
     for issue in issues {
@@ -67,7 +75,7 @@ pub fn text_report(
     Ok(text)
 }
 
-/// Why files could not be judged: an error for each, in order.
+/// Why files could not be judged: an error for each, in order, written as in [`text_report`].
 ///
 /// # Errors
 ///
@@ -77,7 +85,8 @@ pub fn faults_text(
     is_coloured: bool,
     faults: &[Fault],
 ) -> Result<String, OutOfMemory>
-    ensures { IfOk result (λ s. AreFaultTexts is_coloured faults.now (string_bytes s)) }
+    ensures told { IfOk result (λ s. AreFaultTexts is_coloured faults.now (string_bytes s)) }
+    ensures lines { IfOk result (λ s. HasLines is_coloured (sum_by fault_lines faults.now) (string_bytes s)) }
 {
     let mut text = String::new(alloc);
     for fault in faults {
@@ -108,13 +117,9 @@ pub fn write_issue(
         (string_bytes text.old) (string_bytes text.new)) }
 {
     let Some((first, others)) = issue.places.as_slice().split_first() else {
-        let path = path_of(sources, issue.file);
-        let (bold, plain, word) = (
-            bold(is_coloured),
-            plain(is_coloured),
-            error_word(is_coloured),
-        );
-        writeln!(text, "{bold}{path}{plain}: {word}{}", issue.message)?;
+        write_path(text, is_coloured, path_of(sources, issue.file))?;
+        text.push_str(": ")?;
+        write_message(text, is_coloured, issue.message.as_str())?;
         return Ok(());
     };
     write_error(text, is_coloured, sources, *first, issue.message.as_str())?;
@@ -133,8 +138,7 @@ fn write_error(
         (Adds (IsErrorText is_coloured sources.now place message.now) (string_bytes text.old) (string_bytes text.new)) }
 {
     write_place(text, is_coloured, sources, place)?;
-    let word = error_word(is_coloured);
-    writeln!(text, "{word}{message}")?;
+    write_message(text, is_coloured, message)?;
     write_line(text, is_coloured, sources, place)
 }
 
@@ -177,10 +181,27 @@ fn write_place(
 ) -> Result<(), AllocError>
     ensures { OnOk result (string_bytes text.new ≡ string_bytes text.old ++ told_place is_coloured sources.now place) }
 {
-    let (bold, plain) = (bold(is_coloured), plain(is_coloured));
-    let path = path_of(sources, place.file);
+    write_path(text, is_coloured, path_of(sources, place.file))?;
     let (line, column) = (told_line(place), told_column(sources, place));
-    write!(text, "{bold}{path}{plain}:{line}:{column}: ")
+    write!(text, ":{line}:{column}: ")
+}
+
+// A path, which may be bold.
+fn write_path(text: &mut String, is_coloured: bool, path: &str) -> Result<(), AllocError>
+    ensures { OnOk result (string_bytes text.new ≡ string_bytes text.old ++ path_text is_coloured path.now) }
+{
+    text.push_str(bold(is_coloured))?;
+    write_printed(text, path)?;
+    text.push_str(plain(is_coloured))
+}
+
+// A message behind the word before it, and the end of its line.
+fn write_message(text: &mut String, is_coloured: bool, message: &str) -> Result<(), AllocError>
+    ensures { OnOk result (string_bytes text.new ≡ string_bytes text.old ++ message_text is_coloured message.now) }
+{
+    text.push_str(error_word(is_coloured))?;
+    write_printed(text, message)?;
+    text.push_str("\n")
 }
 
 /// The line of a place, counted from 1.

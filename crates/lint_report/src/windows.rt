@@ -6,6 +6,7 @@ ghost use Rattle.lint_report.specs.Windows.{blank_for, blanks, columns, first_wi
 ghost use Rattle.lint_report.specs.Windows.{window};
 
 use crate::colours::mark;
+use crate::printable::{escape_length, is_printable, write_printed};
 use std::alloc::AllocError;
 use unicode_width::UnicodeWidthChar;
 
@@ -30,8 +31,8 @@ pub fn write_window(
         (string_bytes text.new ≡ string_bytes text.old ++ window is_coloured (chars before.now) (chars rest.now)) }
 {
     let (shown, left) = last_within(before, BEFORE);
-    text.push_str(shown)?;
-    text.push_str(first_within(rest, left + BEHIND))?;
+    write_printed(text, shown)?;
+    write_printed(text, first_within(rest, left + BEHIND))?;
     text.push_str("\n")?;
     write_blanks(text, shown)?;
     text.push_str(mark(is_coloured))?;
@@ -60,7 +61,8 @@ fn last_within(text: &str, room: usize) -> (&str, usize)
 
 // The longest beginning of a text that takes at most so many columns.
 fn first_within(text: &str, room: usize) -> &str
-    ensures { result.now ≡ encode_utf8_all (first_within room (chars text.now)) }
+    ensures shown { result.now ≡ encode_utf8_all (first_within room (chars text.now)) }
+    ensures utf8 { IsUtf8 result.now }
 {
     let mut rest = text;
     let mut left = room;
@@ -113,7 +115,12 @@ fn blank_for(character: char) -> &'static str
         0 => "",
         1 => " ",
         2 => "  ",
-        _ => "   ",
+        3 => "   ",
+        4 => "    ",
+        5 => "     ",
+        6 => "      ",
+        7 => "       ",
+        _ => "        ",
     }
 }
 
@@ -128,10 +135,14 @@ fn room_for(character: char) -> usize
     }
 }
 
-// The columns of a character. A control character has none.
+// The columns of a character. One that is not printable has those of its escape.
 fn columns(character: char) -> usize
     ensures value { result ≡ columns character }
-    ensures bound { result ≤ 3 }
+    ensures bound { result ≤ 8 }
 {
-    character.width().unwrap_or(0)
+    if is_printable(character) {
+        character.width().unwrap_or(0)
+    } else {
+        escape_length(character)
+    }
 }

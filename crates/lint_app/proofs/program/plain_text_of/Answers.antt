@@ -10,4 +10,4 @@ returns c =
     IfOk-weaker c.text_report.result _ _ (
     λ text h. on_some c.args.files c.args.is_coloured c.args.sources.now c.args.issues.now c.args.judged (string_bytes text) c.if-files-eq0.false
     (subst (λ n. IsTextReport c.args.is_coloured c.args.sources.now c.args.issues.now c.args.judged n (string_bytes text)) c.saturating_sub-unjudged.ensures h)
-    ) c.text_report.ensures
+    ) c.text_report.ensures.told

@@ -22,12 +22,12 @@ pub range-requires-clause-end_boundary : goal.range-requires-clause-end_boundary
 range-requires-clause-end_boundary c = taken_boundary c.args.text.now c.loop-first.rest.now c.args.room c.loop-first.left c.loop-first.invariant.1
 
 -- the next character does not fit
-pub returns-then-taken-left : goal.returns-then-taken-left
-returns-then-taken-left c =
+pub returns-then-taken-left-clause-shown : goal.returns-then-taken-left-clause-shown
+returns-then-taken-left-clause-shown c =
     let h = c.loop-first.invariant.1 in
     c.range.ensures.value ∙ taken_front c.args.text.now c.loop-first.rest.now c.args.room c.loop-first.left h
     ∙ ap encodes (sym (taken_part c.args.text.now c.loop-first.rest.now c.in-Some.behind.now c.in-Some.first c.args.room c.loop-first.left c.room_for-taken.result c.in-Some.ensures.parts c.room_for-taken.ensures c.if-taken-left.true h))
 
 -- all characters fit
-pub returns : goal.returns
-returns c = taken_all c.args.text.now c.loop-first.rest.now c.args.room c.loop-first.left c.in_default.ensures.parts c.loop-first.invariant.1
+pub returns-clause-shown : goal.returns-clause-shown
+returns-clause-shown c = taken_all c.args.text.now c.loop-first.rest.now c.args.room c.loop-first.left c.in_default.ensures.parts c.loop-first.invariant.1

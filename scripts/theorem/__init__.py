@@ -1,0 +1,1 @@
+"""Follows the definitions that a clause depends on, through the sources, and shows them on a page."""
