@@ -31,14 +31,14 @@ b.graphql: error: None
 ";
 
 // A fault with a place, and one of a file as a whole, as text.
-const FAULTS_TEXT: &str = "c: 1,2.graphql:2:3: error: 50% of\r\n\u{e9} is bad
+const FAULTS_TEXT: &str = "c: 1,2.graphql:2:3: error: 50% of\\u{d}\\u{a}\u{e9} is bad
 \u{e9}\tb
  \t^
 d.graphql: error: entity not found
 ";
 
 const FAULTS_COLOURED: &str =
-    "\x1b[1mc: 1,2.graphql\x1b[0m:2:3: \x1b[1;31merror:\x1b[0m 50% of\r\n\u{e9} is bad
+    "\x1b[1mc: 1,2.graphql\x1b[0m:2:3: \x1b[1;31merror:\x1b[0m 50% of\\u{d}\\u{a}\u{e9} is bad
 \u{e9}\tb
  \t\x1b[1;31m^\x1b[0m
 \x1b[1md.graphql\x1b[0m: \x1b[1;31merror:\x1b[0m entity not found
