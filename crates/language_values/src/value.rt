@@ -6,7 +6,7 @@ ghost use Rattle.std.specs.List.{list_all};
 ghost use Rattle.std.specs.Cmp.Lexicographic.{pointwise};
 ghost use Rattle.std.specs.Fmt.{WritesOnOk};
 ghost use Rattle.language_values.specs.declared.value.InputValue.TheVariants as value;
-ghost use Rattle.language_values.specs.Scalar.{default_text, default_str};
+ghost use Rattle.language_values.specs.Scalar.{default_text, default_str, default_bool, default_prints_bool};
 ghost use Rattle.language_values.specs.Values.{variables_of, is_plain, is_flat_constant, list_items, object_entries};
 ghost use Rattle.language_values.specs.Values.{IsMapOf, IsMapOfObject};
 ghost use Rattle.language_values.specs.ValuesLeft.{variables_left, values_left, variables_waiting, values_waiting};
@@ -69,11 +69,22 @@ impl ScalarValue for DefaultScalarValue {
 
     ghost str_of = { default_str };
 
+    ghost bool_of = { default_bool };
+
     ghost prints_text = { λ x. refl };
+
+    ghost prints_bool = { default_prints_bool };
 
     fn try_as_str(&self) -> Option<&str> {
         match self {
             DefaultScalarValue::String(s) => Some(s.as_str()),
+            _ => None,
+        }
+    }
+
+    fn as_bool(&self) -> Option<bool> {
+        match self {
+            DefaultScalarValue::Boolean(b) => Some(*b),
             _ => None,
         }
     }

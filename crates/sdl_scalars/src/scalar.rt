@@ -1,6 +1,6 @@
 //! The scalars of a text, numbers as written.
 ghost use Rattle.std.specs.Prelude.{Some};
-ghost use Rattle.sdl_scalars.specs.SourceScalar.{source_text, source_str};
+ghost use Rattle.sdl_scalars.specs.SourceScalar.{source_text, source_str, source_bool, source_prints_bool};
 
 use language_values::scalar::ScalarValue;
 use std::alloc::AllocError;
@@ -54,11 +54,22 @@ impl ScalarValue for SourceScalar {
 
     ghost str_of = { source_str };
 
+    ghost bool_of = { source_bool };
+
     ghost prints_text = { λ x. refl };
+
+    ghost prints_bool = { source_prints_bool };
 
     fn try_as_str(&self) -> Option<&str> {
         match self {
             SourceScalar::String(text) => Some(text.as_str()),
+            _ => None,
+        }
+    }
+
+    fn as_bool(&self) -> Option<bool> {
+        match self {
+            SourceScalar::Boolean(b) => Some(*b),
             _ => None,
         }
     }
