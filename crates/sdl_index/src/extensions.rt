@@ -1,6 +1,7 @@
 //! Extensions of types (GraphQL, October 2021, section 3.4.3).
 use crate::error::{PlacedFault, SchemaFault};
 use crate::kinds::{KnownTypes, TypeKind};
+use crate::parts::DefinedType;
 use graphql_reader::type_system::TypeDefinition;
 use language::error::OutOfMemory;
 
@@ -11,12 +12,13 @@ use language::error::OutOfMemory;
 /// Out of memory.
 pub fn add_extension_faults<'a>(
     known: &KnownTypes<'a>,
-    extensions: &[TypeDefinition<'a>],
+    extensions: &[DefinedType<'_, 'a>],
     faults: &mut Vec<PlacedFault<'a>>,
 ) -> Result<(), OutOfMemory> {
     for extension in extensions {
-        if let Some(fault) = fault_of(known, extension) {
-            let position = extension.name.span.start;
+        let item = extension.item;
+        if let Some(fault) = fault_of(known, item) {
+            let position = item.name.span.start;
             faults.push(PlacedFault { position, fault })?;
         }
     }

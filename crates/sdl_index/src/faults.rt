@@ -18,7 +18,7 @@ use std::alloc::Global;
 /// Out of memory.
 pub fn roots_and_faults<'a>(
     alloc: Global,
-    parts: &Parts<'a>,
+    parts: &Parts<'_, 'a>,
 ) -> Result<(Roots<'a>, Vec<PlacedFault<'a>>), OutOfMemory> {
     let known = KnownTypes::of_parts(alloc, parts)?;
     let mut faults = Vec::new(alloc);

@@ -1,7 +1,7 @@
 //! The kinds of the types of a document, by name.
 use crate::error::Defined;
-use crate::parts::Parts;
-use graphql_reader::type_system::{TypeBody, TypeDefinition};
+use crate::parts::{DefinedType, Parts};
+use graphql_reader::type_system::TypeBody;
 use language::error::OutOfMemory;
 use name_tables::map::NameMap;
 use std::alloc::Global;
@@ -60,7 +60,7 @@ impl<'a> KnownTypes<'a> {
     /// # Errors
     ///
     /// Out of memory.
-    pub fn of_parts(alloc: Global, parts: &Parts<'a>) -> Result<KnownTypes<'a>, OutOfMemory> {
+    pub fn of_parts(alloc: Global, parts: &Parts<'_, 'a>) -> Result<KnownTypes<'a>, OutOfMemory> {
         let mut known = KnownTypes {
             kinds: NameMap::with_slots(alloc, parts.types.len())?,
         };
@@ -69,10 +69,10 @@ impl<'a> KnownTypes<'a> {
         Ok(known)
     }
 
-    fn add_all(&mut self, types: &[TypeDefinition<'a>]) -> Result<(), OutOfMemory> {
+    fn add_all(&mut self, types: &[DefinedType<'_, 'a>]) -> Result<(), OutOfMemory> {
         for defined in types {
-            self.kinds
-                .insert(defined.name.item, TypeKind::of(&defined.body))?;
+            let item = defined.item;
+            self.kinds.insert(item.name.item, TypeKind::of(&item.body))?;
         }
         Ok(())
     }

@@ -6,24 +6,51 @@ use language::error::OutOfMemory;
 use language::position::Spanning;
 use std::alloc::Global;
 
-/// The definitions and extensions of a document, and those standard types that it does not define itself.
-#[derive(Drop)]
-pub struct Parts<'a> {
-    pub schemas: Vec<Spanning<SchemaDefinition<'a>>>,
-    pub types: Vec<TypeDefinition<'a>>,
-    /// By the names of their types, those of one type in the order of the text.
-    pub extensions: Vec<TypeDefinition<'a>>,
-    pub standard: Vec<TypeDefinition<'a>>,
-    pub directives: Vec<DirectiveDefinition<'a>>,
+/// A definition or an extension of a schema in a document.
+#[derive(Clone, Copy)]
+pub struct DefinedSchema<'d, 'a> {
+    pub item: &'d Spanning<SchemaDefinition<'a>>,
 }
 
-impl<'a> Parts<'a> {
+/// A definition or an extension of a type in a document.
+#[derive(Clone, Copy)]
+pub struct DefinedType<'d, 'a> {
+    pub item: &'d TypeDefinition<'a>,
+}
+
+impl<'d, 'a> DefinedType<'d, 'a> {
+    /// The name of the type.
+    pub fn name(&self) -> &'a str {
+        let item = self.item;
+        item.name.item
+    }
+}
+
+/// A definition of a directive in a document.
+#[derive(Clone, Copy)]
+pub struct DefinedDirective<'d, 'a> {
+    pub item: &'d DirectiveDefinition<'a>,
+}
+
+/// The definitions and extensions of a document, which they borrow, and those standard types that it does not define
+/// itself.
+#[derive(Drop)]
+pub struct Parts<'d, 'a> {
+    pub schemas: Vec<DefinedSchema<'d, 'a>>,
+    pub types: Vec<DefinedType<'d, 'a>>,
+    /// By the names of their types, those of one type in the order of the text.
+    pub extensions: Vec<DefinedType<'d, 'a>>,
+    pub standard: Vec<DefinedType<'d, 'a>>,
+    pub directives: Vec<DefinedDirective<'d, 'a>>,
+}
+
+impl<'d, 'a> Parts<'d, 'a> {
     /// The extensions of the type with this name, in the order of the text.
-    pub fn extensions_of(&self, name: &str) -> &[TypeDefinition<'a>] {
+    pub fn extensions_of(&self, name: &str) -> &[DefinedType<'d, 'a>] {
         let extensions = self.extensions.as_slice();
-        let start = extensions.partition_point(|part| part.name.item < name);
+        let start = extensions.partition_point(|part| part.name() < name);
         let rest = &extensions[start..];
-        let end = rest.partition_point(|part| part.name.item == name);
+        let end = rest.partition_point(|part| part.name() == name);
         &rest[..end]
     }
 }
@@ -33,11 +60,11 @@ impl<'a> Parts<'a> {
 /// # Errors
 ///
 /// Out of memory.
-pub fn parts_of<'a>(
+pub fn parts_of<'d, 'a>(
     alloc: Global,
-    document: Vec<TypeSystemDefinition<'a>>,
-    standard: Vec<TypeSystemDefinition<'a>>,
-) -> Result<Parts<'a>, OutOfMemory> {
+    document: &'d [TypeSystemDefinition<'a>],
+    standard: &'d [TypeSystemDefinition<'a>],
+) -> Result<Parts<'d, 'a>, OutOfMemory> {
     let mut parts = Parts {
         schemas: Vec::new(alloc),
         types: Vec::new(alloc),
@@ -51,39 +78,46 @@ pub fn parts_of<'a>(
     for definition in standard {
         add_standard(&mut parts, definition)?;
     }
-    parts.extensions.sort_by_key(|part| part.name.item)?;
+    parts.extensions.sort_by_key(|part| part.name())?;
     Ok(parts)
 }
 
-fn add_part<'a>(
-    parts: &mut Parts<'a>,
-    definition: TypeSystemDefinition<'a>,
+fn add_part<'d, 'a>(
+    parts: &mut Parts<'d, 'a>,
+    definition: &'d TypeSystemDefinition<'a>,
 ) -> Result<(), OutOfMemory> {
     match definition {
-        TypeSystemDefinition::Schema(defined) => parts.schemas.push(defined)?,
-        TypeSystemDefinition::Type(defined) => add_type(parts, defined.item)?,
-        TypeSystemDefinition::Directive(defined) => parts.directives.push(defined.item)?,
+        TypeSystemDefinition::Schema(item) => parts.schemas.push(DefinedSchema { item })?,
+        TypeSystemDefinition::Type(defined) => add_type(parts, &defined.item)?,
+        TypeSystemDefinition::Directive(defined) => parts.directives.push(DefinedDirective {
+            item: &defined.item,
+        })?,
     }
     Ok(())
 }
 
-fn add_type<'a>(parts: &mut Parts<'a>, defined: TypeDefinition<'a>) -> Result<(), OutOfMemory> {
-    if defined.is_extension {
-        parts.extensions.push(defined)?;
+fn add_type<'d, 'a>(
+    parts: &mut Parts<'d, 'a>,
+    item: &'d TypeDefinition<'a>,
+) -> Result<(), OutOfMemory> {
+    if item.is_extension {
+        parts.extensions.push(DefinedType { item })?;
     } else {
-        parts.types.push(defined)?;
+        parts.types.push(DefinedType { item })?;
     }
     Ok(())
 }
 
 // Adds a standard type, unless the document defines its name.
-fn add_standard<'a>(
-    parts: &mut Parts<'a>,
-    definition: TypeSystemDefinition<'a>,
+fn add_standard<'d, 'a>(
+    parts: &mut Parts<'d, 'a>,
+    definition: &'d TypeSystemDefinition<'a>,
 ) -> Result<(), OutOfMemory> {
     if let TypeSystemDefinition::Type(defined) = definition {
         if first_named(parts.types.as_slice(), defined.item.name.item).is_none() {
-            parts.standard.push(defined.item)?;
+            parts.standard.push(DefinedType {
+                item: &defined.item,
+            })?;
         }
     }
     Ok(())
@@ -91,12 +125,12 @@ fn add_standard<'a>(
 
 /// The first type with this name.
 pub fn first_named<'d, 'a>(
-    types: &'d [TypeDefinition<'a>],
+    types: &[DefinedType<'d, 'a>],
     name: &str,
-) -> Option<&'d TypeDefinition<'a>> {
+) -> Option<DefinedType<'d, 'a>> {
     for defined in types {
-        if defined.name.item == name {
-            return Some(defined);
+        if defined.name() == name {
+            return Some(*defined);
         }
     }
     None

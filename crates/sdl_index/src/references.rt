@@ -1,11 +1,9 @@
 //! References to types that are not defined, or that do not fit their place.
 use crate::error::{PlacedFault, SchemaFault};
 use crate::kinds::{KnownTypes, TypeKind};
-use crate::parts::Parts;
+use crate::parts::{DefinedType, Parts};
 use crate::repeats::add_repeats_of_arguments;
-use graphql_reader::type_system::{
-    FieldDefinition, InputValueDefinition, TypeBody, TypeDefinition,
-};
+use graphql_reader::type_system::{FieldDefinition, InputValueDefinition, TypeBody};
 use language::error::OutOfMemory;
 use language::position::{SourcePosition, Spanning};
 use language::types::Type;
@@ -48,13 +46,14 @@ impl Wanted {
 pub fn add_reference_faults<'a>(
     alloc: Global,
     known: &KnownTypes<'a>,
-    parts: &Parts<'a>,
+    parts: &Parts<'_, 'a>,
     faults: &mut Vec<PlacedFault<'a>>,
 ) -> Result<(), OutOfMemory> {
     check_types(alloc, known, parts.types.as_slice(), faults)?;
     check_types(alloc, known, parts.extensions.as_slice(), faults)?;
     for directive in parts.directives.as_slice() {
-        check_arguments(alloc, known, directive.arguments.as_slice(), faults)?;
+        let item = directive.item;
+        check_arguments(alloc, known, item.arguments.as_slice(), faults)?;
     }
     Ok(())
 }
@@ -62,18 +61,19 @@ pub fn add_reference_faults<'a>(
 fn check_types<'a>(
     alloc: Global,
     known: &KnownTypes<'a>,
-    types: &[TypeDefinition<'a>],
+    types: &[DefinedType<'_, 'a>],
     faults: &mut Vec<PlacedFault<'a>>,
 ) -> Result<(), OutOfMemory> {
     for part in types {
+        let item = part.item;
         check_names(
             alloc,
             known,
             Wanted::Any,
-            part.interfaces.as_slice(),
+            item.interfaces.as_slice(),
             faults,
         )?;
-        check_body(alloc, known, &part.body, faults)?;
+        check_body(alloc, known, &item.body, faults)?;
     }
     Ok(())
 }

@@ -2,9 +2,9 @@
 use crate::error::{Defined, PlacedFault};
 use crate::kinds::TypeKind;
 use crate::names::Names;
-use crate::parts::Parts;
+use crate::parts::{DefinedDirective, DefinedType, Parts};
 use graphql_reader::type_system::{
-    DirectiveDefinition, FieldDefinition, InputValueDefinition, TypeBody, TypeDefinition,
+    FieldDefinition, InputValueDefinition, TypeBody, TypeDefinition,
 };
 use language::error::OutOfMemory;
 use std::alloc::Global;
@@ -16,16 +16,17 @@ use std::alloc::Global;
 /// Out of memory.
 pub fn add_repeats<'a>(
     alloc: Global,
-    parts: &Parts<'a>,
+    parts: &Parts<'_, 'a>,
     faults: &mut Vec<PlacedFault<'a>>,
 ) -> Result<(), OutOfMemory> {
     let mut types = Names::new(alloc, Defined::Type);
     for defined in parts.types.as_slice() {
-        let is_first = types.add(&defined.name, faults)?;
-        let extensions = parts.extensions_of(defined.name.item);
+        let item = defined.item;
+        let is_first = types.add(&item.name, faults)?;
+        let extensions = parts.extensions_of(item.name.item);
         // They extend the first type of their name.
         let count = if is_first { extensions.len() } else { 0 };
-        add_repeats_of_type(alloc, defined, &extensions[..count], faults)?;
+        add_repeats_of_type(alloc, item, &extensions[..count], faults)?;
     }
     add_repeats_of_directives(alloc, parts.directives.as_slice(), faults)?;
     add_repeats_of_standard(alloc, parts, faults)
@@ -34,14 +35,14 @@ pub fn add_repeats<'a>(
 // Extensions may list again what a standard type lists.
 fn add_repeats_of_standard<'a>(
     alloc: Global,
-    parts: &Parts<'a>,
+    parts: &Parts<'_, 'a>,
     faults: &mut Vec<PlacedFault<'a>>,
 ) -> Result<(), OutOfMemory> {
     for defined in parts.standard.as_slice() {
         add_repeats_of_type(
             alloc,
-            defined,
-            parts.extensions_of(defined.name.item),
+            defined.item,
+            parts.extensions_of(defined.name()),
             faults,
         )?;
     }
@@ -52,15 +53,16 @@ fn add_repeats_of_standard<'a>(
 fn add_repeats_of_type<'a>(
     alloc: Global,
     defined: &TypeDefinition<'a>,
-    extensions: &[TypeDefinition<'a>],
+    extensions: &[DefinedType<'_, 'a>],
     faults: &mut Vec<PlacedFault<'a>>,
 ) -> Result<(), OutOfMemory> {
     let kind = TypeKind::of(&defined.body);
     let mut names = Names::new(alloc, kind.lists());
     add_names(defined, &mut names, faults)?;
     for part in extensions {
-        if TypeKind::of(&part.body) == kind {
-            add_names(part, &mut names, faults)?;
+        let item = part.item;
+        if TypeKind::of(&item.body) == kind {
+            add_names(item, &mut names, faults)?;
         }
     }
     Ok(())
@@ -125,12 +127,13 @@ pub fn add_repeats_of_arguments<'a>(
 
 fn add_repeats_of_directives<'a>(
     alloc: Global,
-    directives: &[DirectiveDefinition<'a>],
+    directives: &[DefinedDirective<'_, 'a>],
     faults: &mut Vec<PlacedFault<'a>>,
 ) -> Result<(), OutOfMemory> {
     let mut names = Names::new(alloc, Defined::Directive);
     for defined in directives {
-        names.add(&defined.name, faults)?;
+        let item = defined.item;
+        names.add(&item.name, faults)?;
     }
     Ok(())
 }

@@ -1,8 +1,8 @@
 //! The root operation types of a schema (GraphQL, October 2021, section 3.3.1).
 use crate::error::{Defined, PlacedFault, SchemaFault};
 use crate::kinds::{KnownTypes, TypeKind};
-use crate::parts::{Parts, first_named};
-use graphql_reader::type_system::{RootOperationType, SchemaDefinition, TypeDefinition};
+use crate::parts::{DefinedType, Parts, first_named};
+use graphql_reader::type_system::{RootOperationType, SchemaDefinition};
 use language::error::OutOfMemory;
 use language::position::{SourcePosition, Spanning};
 use language::tree::OperationType;
@@ -78,7 +78,7 @@ impl<'a> Roots<'a> {
 ///
 /// Out of memory.
 pub fn roots_of<'a>(
-    parts: &Parts<'a>,
+    parts: &Parts<'_, 'a>,
     faults: &mut Vec<PlacedFault<'a>>,
 ) -> Result<Roots<'a>, OutOfMemory> {
     let mut roots = Roots {
@@ -89,15 +89,16 @@ pub fn roots_of<'a>(
     };
     let mut is_defined = false;
     for schema in parts.schemas.as_slice() {
-        if is_defined && !schema.item.is_extension {
+        let item = schema.item;
+        if is_defined && !item.item.is_extension {
             let fault = SchemaFault::SecondSchema;
             faults.push(PlacedFault {
-                position: schema.span.start,
+                position: item.span.start,
                 fault,
             })?;
         } else {
-            roots = with_schema(roots, schema, faults)?;
-            is_defined = is_defined || !schema.item.is_extension;
+            roots = with_schema(roots, item, faults)?;
+            is_defined = is_defined || !item.item.is_extension;
         }
     }
     if is_defined {
@@ -149,7 +150,7 @@ fn word_of(operation_type: OperationType) -> &'static str {
     }
 }
 
-fn with_usual_roots<'a>(roots: Roots<'a>, types: &[TypeDefinition<'a>]) -> Roots<'a> {
+fn with_usual_roots<'a>(roots: Roots<'a>, types: &[DefinedType<'_, 'a>]) -> Roots<'a> {
     Roots {
         query: named_or_usual(roots.query, types, "Query"),
         mutation: named_or_usual(roots.mutation, types, "Mutation"),
@@ -160,17 +161,20 @@ fn with_usual_roots<'a>(roots: Roots<'a>, types: &[TypeDefinition<'a>]) -> Roots
 
 fn named_or_usual<'a>(
     named: Option<Root<'a>>,
-    types: &[TypeDefinition<'a>],
+    types: &[DefinedType<'_, 'a>],
     name: &str,
 ) -> Option<Root<'a>> {
     if named.is_some() {
         return named;
     }
     match first_named(types, name) {
-        Some(defined) => Some(Root {
-            name: defined.name.item,
-            position: defined.name.span.start,
-        }),
+        Some(defined) => {
+            let item = defined.item;
+            Some(Root {
+                name: item.name.item,
+                position: item.name.span.start,
+            })
+        }
         None => None,
     }
 }

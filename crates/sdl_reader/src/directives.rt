@@ -10,6 +10,7 @@ use meta::Argument;
 use schema::error::SchemaError;
 use schema::model::{DirectiveLocation, DirectiveType, SchemaTypeOf};
 use sdl_index::error::{SchemaFault, SchemaReadError};
+use sdl_index::parts::DefinedDirective;
 use sdl_scalars::check::SourceCheck;
 use std::alloc::Global;
 
@@ -25,13 +26,14 @@ pub type SourceSchema = SchemaTypeOf<SourceScalar, SourceCheck>;
 pub fn add_directives<'a>(
     alloc: Global,
     schema: &mut SourceSchema,
-    directives: &[DirectiveDefinition<'a>],
+    directives: &[DefinedDirective<'_, 'a>],
 ) -> Result<(), SchemaReadError<'a>> {
     let deprecated = deprecated(alloc)?;
     add_directive(alloc, schema, deprecated, SourcePosition::new(0, 0, 0))?;
     for defined in directives {
-        let directive = directive_of(alloc, defined)?;
-        add_directive(alloc, schema, directive, defined.name.span.start)?;
+        let item = defined.item;
+        let directive = directive_of(alloc, item)?;
+        add_directive(alloc, schema, directive, item.name.span.start)?;
     }
     Ok(())
 }

@@ -12,5 +12,5 @@ mod standard;
 mod types;
 
 pub use graphql_reader::{Found, SourceScalar, SyntaxError, SyntaxFault};
-pub use reader::read_schema;
+pub use reader::{read_schema, schema_of_document};
 pub use sdl_index::error::{Defined, Faults, PlacedFault, SchemaFault, SchemaReadError};

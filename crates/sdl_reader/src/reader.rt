@@ -3,6 +3,7 @@ use crate::directives::{SourceSchema, add_directives};
 use crate::standard::STANDARD_TYPES;
 use crate::types::types_of;
 use graphql_reader::read_type_system;
+use graphql_reader::type_system::TypeSystemDefinition;
 use language_types::error::OutOfMemory;
 use language_types::position::SourcePosition;
 use schema::error::SchemaError;
@@ -21,8 +22,21 @@ use std::alloc::Global;
 /// Or out of memory.
 pub fn read_schema<'a>(alloc: Global, text: &'a str) -> Result<SourceSchema, SchemaReadError<'a>> {
     let document = read_type_system(alloc, text)?;
+    schema_of_document(alloc, document.as_slice())
+}
+
+/// The schema of a type system document that was read, as by `graphql_reader::read_type_system`.
+///
+/// # Errors
+///
+/// All faults of the definitions, each with its position in the text that was read (0-based index, line and column, in
+/// bytes), and never a syntax error. Or out of memory.
+pub fn schema_of_document<'a>(
+    alloc: Global,
+    document: &[TypeSystemDefinition<'a>],
+) -> Result<SourceSchema, SchemaReadError<'a>> {
     let standard = read_type_system(alloc, STANDARD_TYPES)?;
-    let parts = parts_of(alloc, document, standard)?;
+    let parts = parts_of(alloc, document, standard.as_slice())?;
     let (roots, faults) = roots_and_faults(alloc, &parts)?;
     match (Faults::of_list(faults), roots.query) {
         (Some(faults), _) => Err(SchemaReadError::Faults(faults)),
@@ -37,7 +51,7 @@ pub fn read_schema<'a>(alloc: Global, text: &'a str) -> Result<SourceSchema, Sch
 
 fn schema_of<'a>(
     alloc: Global,
-    parts: &Parts<'a>,
+    parts: &Parts<'_, 'a>,
     roots: &Roots<'a>,
     query: Root<'a>,
 ) -> Result<SourceSchema, SchemaReadError<'a>> {
@@ -50,7 +64,7 @@ fn schema_of<'a>(
 // The schema of the types and the root types, without descriptions and directives.
 fn plain_schema<'a>(
     alloc: Global,
-    parts: &Parts<'a>,
+    parts: &Parts<'_, 'a>,
     roots: &Roots<'a>,
     query: Root<'a>,
 ) -> Result<SourceSchema, SchemaReadError<'a>> {
@@ -62,9 +76,10 @@ fn plain_schema<'a>(
     }
 }
 
-fn describe(schema: &mut SourceSchema, parts: &Parts<'_>) -> Result<(), OutOfMemory> {
+fn describe(schema: &mut SourceSchema, parts: &Parts<'_, '_>) -> Result<(), OutOfMemory> {
     for defined in parts.schemas.as_slice() {
-        if let Some(text) = &defined.item.description {
+        let item = defined.item;
+        if let Some(text) = &item.item.description {
             schema.set_description(text.item.as_str())?;
         }
     }
@@ -72,7 +87,7 @@ fn describe(schema: &mut SourceSchema, parts: &Parts<'_>) -> Result<(), OutOfMem
 }
 
 // A type that the document defines does not fit a standard type, which refers to its name.
-fn refusal_of<'a>(alloc: Global, parts: &Parts<'a>, error: SchemaError) -> SchemaReadError<'a> {
+fn refusal_of<'a>(alloc: Global, parts: &Parts<'_, 'a>, error: SchemaError) -> SchemaReadError<'a> {
     let position = match &error {
         SchemaError::OutOfMemory => return SchemaReadError::OutOfMemory,
         SchemaError::NotInputType(name) => place_of(parts, name.as_str()),
@@ -82,9 +97,12 @@ fn refusal_of<'a>(alloc: Global, parts: &Parts<'a>, error: SchemaError) -> Schem
 }
 
 // The place where a type is defined.
-fn place_of(parts: &Parts<'_>, name: &str) -> SourcePosition {
+fn place_of(parts: &Parts<'_, '_>, name: &str) -> SourcePosition {
     match first_named(parts.types.as_slice(), name) {
-        Some(defined) => defined.name.span.start,
+        Some(defined) => {
+            let item = defined.item;
+            item.name.span.start
+        }
         None => SourcePosition::new(0, 0, 0),
     }
 }

@@ -15,7 +15,7 @@ use meta::objects::ObjectMeta;
 use meta::scalars::ScalarMetaOf;
 use meta::unions::UnionMeta;
 use sdl_index::applied::specified_by;
-use sdl_index::parts::Parts;
+use sdl_index::parts::{DefinedType, Parts};
 use sdl_scalars::check::SourceCheck;
 use std::alloc::Global;
 
@@ -23,37 +23,37 @@ use std::alloc::Global;
 pub type SourceMeta = MetaTypeOf<SourceScalar, SourceCheck>;
 
 // The extensions of a type.
-type Extensions<'e, 'a> = &'e [TypeDefinition<'a>];
+type Extensions<'e, 'd, 'a> = &'e [DefinedType<'d, 'a>];
 
 /// The types of a document, followed by the standard types.
 ///
 /// # Errors
 ///
 /// Out of memory.
-pub fn types_of(alloc: Global, parts: &Parts<'_>) -> Result<Vec<SourceMeta>, OutOfMemory> {
+pub fn types_of(alloc: Global, parts: &Parts<'_, '_>) -> Result<Vec<SourceMeta>, OutOfMemory> {
     let mut types = Vec::new(alloc);
     add_types(alloc, parts, parts.types.as_slice(), &mut types)?;
     add_types(alloc, parts, parts.standard.as_slice(), &mut types)?;
     Ok(types)
 }
 
-fn add_types(
+fn add_types<'d>(
     alloc: Global,
-    parts: &Parts<'_>,
-    defined: &[TypeDefinition<'_>],
+    parts: &Parts<'d, '_>,
+    defined: &[DefinedType<'d, '_>],
     types: &mut Vec<SourceMeta>,
 ) -> Result<(), OutOfMemory> {
     for definition in defined {
-        let extensions = parts.extensions_of(definition.name.item);
-        types.push(type_of(alloc, definition, extensions)?)?;
+        let extensions = parts.extensions_of(definition.name());
+        types.push(type_of(alloc, definition.item, extensions)?)?;
     }
     Ok(())
 }
 
-fn type_of(
+fn type_of<'d>(
     alloc: Global,
-    defined: &TypeDefinition<'_>,
-    extensions: Extensions<'_, '_>,
+    defined: &'d TypeDefinition<'_>,
+    extensions: Extensions<'_, 'd, '_>,
 ) -> Result<SourceMeta, OutOfMemory> {
     match &defined.body {
         TypeBody::Scalar => scalar_of(alloc, defined, extensions),
@@ -77,10 +77,10 @@ fn check_of(name: &str) -> SourceCheck {
     }
 }
 
-fn scalar_of(
+fn scalar_of<'d>(
     alloc: Global,
-    defined: &TypeDefinition<'_>,
-    extensions: Extensions<'_, '_>,
+    defined: &'d TypeDefinition<'_>,
+    extensions: Extensions<'_, 'd, '_>,
 ) -> Result<SourceMeta, OutOfMemory> {
     let name = defined.name.item;
     let mut meta = scalar_named(alloc, name)?;
@@ -105,14 +105,15 @@ fn scalar_named(alloc: Global, name: &str) -> Result<ScalarMetaOf<SourceCheck>, 
 
 fn url_of<'d>(
     defined: &'d TypeDefinition<'_>,
-    extensions: &'d [TypeDefinition<'_>],
+    extensions: Extensions<'_, 'd, '_>,
 ) -> Option<&'d str> {
     let url = specified_by(&defined.directives);
     if url.is_some() {
         return url;
     }
     for part in extensions {
-        let url = specified_by(&part.directives);
+        let item = part.item;
+        let url = specified_by(&item.directives);
         if url.is_some() {
             return url;
         }
@@ -123,7 +124,7 @@ fn url_of<'d>(
 fn object_of(
     alloc: Global,
     defined: &TypeDefinition<'_>,
-    extensions: Extensions<'_, '_>,
+    extensions: Extensions<'_, '_, '_>,
 ) -> Result<SourceMeta, OutOfMemory> {
     let fields = fields_of(alloc, defined, extensions)?;
     let interface_names = interfaces_of(alloc, defined, extensions)?;
@@ -136,7 +137,7 @@ fn object_of(
 fn interface_of(
     alloc: Global,
     defined: &TypeDefinition<'_>,
-    extensions: Extensions<'_, '_>,
+    extensions: Extensions<'_, '_, '_>,
 ) -> Result<SourceMeta, OutOfMemory> {
     let fields = fields_of(alloc, defined, extensions)?;
     let interface_names = interfaces_of(alloc, defined, extensions)?;
@@ -156,13 +157,13 @@ fn typename(alloc: Global) -> Result<Field<SourceScalar>, OutOfMemory> {
 fn fields_of(
     alloc: Global,
     defined: &TypeDefinition<'_>,
-    extensions: Extensions<'_, '_>,
+    extensions: Extensions<'_, '_, '_>,
 ) -> Result<Vec<Field<SourceScalar>>, OutOfMemory> {
     let mut fields = Vec::new(alloc);
     fields.push(typename(alloc)?)?;
     add_fields_of(alloc, defined, &mut fields)?;
     for part in extensions {
-        add_fields_of(alloc, part, &mut fields)?;
+        add_fields_of(alloc, part.item, &mut fields)?;
     }
     Ok(fields)
 }
@@ -183,12 +184,13 @@ fn add_fields_of(
 fn interfaces_of(
     alloc: Global,
     defined: &TypeDefinition<'_>,
-    extensions: Extensions<'_, '_>,
+    extensions: Extensions<'_, '_, '_>,
 ) -> Result<Vec<String>, OutOfMemory> {
     let mut names = Vec::new(alloc);
     add_names(alloc, defined.interfaces.as_slice(), &mut names)?;
     for part in extensions {
-        add_names(alloc, part.interfaces.as_slice(), &mut names)?;
+        let item = part.item;
+        add_names(alloc, item.interfaces.as_slice(), &mut names)?;
     }
     Ok(names)
 }
@@ -196,7 +198,7 @@ fn interfaces_of(
 fn union_of(
     alloc: Global,
     defined: &TypeDefinition<'_>,
-    extensions: Extensions<'_, '_>,
+    extensions: Extensions<'_, '_, '_>,
 ) -> Result<SourceMeta, OutOfMemory> {
     let of_type_names = members_of(alloc, defined, extensions)?;
     Ok(MetaTypeOf::Union(UnionMeta {
@@ -209,12 +211,12 @@ fn union_of(
 fn members_of(
     alloc: Global,
     defined: &TypeDefinition<'_>,
-    extensions: Extensions<'_, '_>,
+    extensions: Extensions<'_, '_, '_>,
 ) -> Result<Vec<String>, OutOfMemory> {
     let mut names = Vec::new(alloc);
     add_members_of(alloc, defined, &mut names)?;
     for part in extensions {
-        add_members_of(alloc, part, &mut names)?;
+        add_members_of(alloc, part.item, &mut names)?;
     }
     Ok(names)
 }
@@ -233,13 +235,13 @@ fn add_members_of(
 fn enum_of(
     alloc: Global,
     defined: &TypeDefinition<'_>,
-    extensions: Extensions<'_, '_>,
+    extensions: Extensions<'_, '_, '_>,
 ) -> Result<SourceMeta, OutOfMemory> {
     let mut names = Vec::new(alloc);
     let mut values = Vec::new(alloc);
     add_values_of(alloc, defined, &mut names, &mut values)?;
     for part in extensions {
-        add_values_of(alloc, part, &mut names, &mut values)?;
+        add_values_of(alloc, part.item, &mut names, &mut values)?;
     }
     let check = SourceCheck::Enum(names);
     let mut meta = EnumMetaOf::with_check(alloc, defined.name.item, values, check)?;
@@ -250,12 +252,12 @@ fn enum_of(
 fn input_object_of(
     alloc: Global,
     defined: &TypeDefinition<'_>,
-    extensions: Extensions<'_, '_>,
+    extensions: Extensions<'_, '_, '_>,
 ) -> Result<SourceMeta, OutOfMemory> {
     let mut fields = Vec::new(alloc);
     add_inputs_of(alloc, defined, &mut fields)?;
     for part in extensions {
-        add_inputs_of(alloc, part, &mut fields)?;
+        add_inputs_of(alloc, part.item, &mut fields)?;
     }
     let name = defined.name.item;
     let mut meta = InputObjectMetaOf::with_check(alloc, name, fields, SourceCheck::Object)?;
