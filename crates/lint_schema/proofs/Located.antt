@@ -1,5 +1,5 @@
 -- What is told of a schema's faults, as a loop goes on.
-use Rattle.std.proofs.Common.{◌≡◌, ◌∙◌, ℕ, ◌+◌, ◌<◌, ◌≤◌, arith, List, [], ◌∷◌, ◌++◌, None, append_assoc, length, length-append, get_or, take, refl, sym, subst, ap, inl, inr}
+use Rattle.std.proofs.Common.{◌≡◌, ◌∙◌, ℕ, ◌+◌, ◌<◌, ◌≤◌, arith, List, [], ◌∷◌, ◌++◌, append_assoc, length, length-append, get_or, take, refl, sym, subst, ap, inl, inr}
 use Rattle.std.specs.List.{AllZip}
 use Rattle.std.proofs.lemmas.List.{append-nil, take_more}
 use Rattle.std.proofs.lemmas.Slice.Zip.{all_zipped_more}
@@ -9,8 +9,8 @@ use Rattle.lint_sources.specs.declared.faults.Fault.{Fault}
 use Rattle.lint_sources.specs.declared.sources.Joined.{Joined}
 use Rattle.lint_sources.specs.declared.sources.Source.{Source}
 use Rattle.lint_sources.specs.Places.{place_in}
-use Rattle.lint_schema.specs.Judged.{AddsLocated, AddsMendedFaults, AddsRest, IsJudged, IsToldLocated, IsTouchedBy}
-use Rattle.lint_schema.specs.Told.{AddsFault, AddsFaultsOf, HasAllFurther, HasFurther, IsToldAt}
+use Rattle.lint_schema.specs.Judged.{AddsLocated, AddsMendedFaults, AddsRest, AddsTypeSystemFaults, IsToldLocated, IsTouchedBy}
+use Rattle.lint_schema.specs.Told.{AddsFault, HasAllFurther, HasFurther}
 use Rattle.sdl_faults.specs.Schema.{SourceSchema}
 use Rattle.sdl_faults.specs.Valid.{IsValidSchema}
 use Rattle.language_types.specs.Names.{is_among}
@@ -82,20 +82,11 @@ rest_stays sources joined document standard error old new (inr h) some = more_st
 none_added : (old more new : List Fault) → new ≡ old ++ more → length new ≤ length old → more ≡ []
 none_added old more new all h = no_more more (omega (arith, h, ap length all, length-append old more))
 
-more_told : (sources : List Source) (joined : Joined) (error : SchemaReadError) (old new : List Fault) → AddsFaultsOf sources joined error old new → length new ≤ length old → ⊥
-more_told sources joined (read.Syntax error) old new h le =
-    let none : h.fault ∷ [] ≡ [] = none_added old (h.fault ∷ []) new h.all le in cc
-more_told sources joined (read.Faults found) old new h le =
-    let none : h.1.more ≡ [] = none_added old h.1.more new h.1.all le in
-    let empty : found.list.items ≡ [] = zipped_none (λ p f. IsToldAt sources (place_in joined p.position) None f) found.list.items h.1.more h.1.told none in
-    omega (arith, h.0, ap length empty)
-more_told sources joined read.OutOfMemory old new h le = h
-
 -- then the schema is a valid type system
-pub none_judged : (sources : List Source) (joined : Joined) (schema : SourceSchema) (old new : List Fault) → IsJudged sources joined schema old new → length new ≤ length old → (new ≡ old) × IsValidSchema schema
-none_judged sources joined schema old new (inl h) le =
-    let adds = h.2.adds in
+pub none_judged : (sources : List Source) (joined : Joined) (document standard : List TypeSystemDefinition) (schema : SourceSchema) (old new : List Fault)
+    → AddsTypeSystemFaults sources joined document standard schema old new → length new ≤ length old → (new ≡ old) × IsValidSchema schema
+none_judged sources joined document standard schema old new h le =
+    let adds = h.adds in
     let none : adds.more ≡ [] = none_added old adds.more new adds.all le in
-    let found : h.2.found ≡ [] = zipped_none (IsToldLocated sources joined) h.2.found adds.more adds.told none in
-    (adds.all ∙ ap (λ z. old ++ z) none ∙ append-nil old, (h.2.valid.0 found).valid)
-none_judged sources joined schema old new (inr h) le = absurd (more_told sources joined h.0 old new h.1 le)
+    let found : h.found ≡ [] = zipped_none (IsToldLocated sources joined) h.found adds.more adds.told none in
+    (adds.all ∙ ap (λ z. old ++ z) none ∙ append-nil old, (h.valid.0 found).valid)

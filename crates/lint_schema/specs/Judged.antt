@@ -10,7 +10,7 @@ use Rattle.lint_sources.specs.declared.sources.Source.{Source}
 use Rattle.lint_sources.specs.Faults.{IsFault}
 use Rattle.lint_sources.specs.Places.{place_in}
 use Rattle.lint_sources.specs.Sources.{path_in}
-use Rattle.lint_schema.specs.Told.{AddsFaultsOf, HasAllFurther, IsToldAt}
+use Rattle.lint_schema.specs.Told.{HasAllFurther, IsToldAt}
 use Rattle.sdl_index.specs.declared.error.SchemaReadError.{SchemaReadError}
 use Rattle.sdl_index.specs.declared.error.SchemaReadError.TheVariants as read
 use Rattle.sdl_mending.specs.declared.mended.Mended.{Mended}
@@ -75,10 +75,3 @@ abbrev pub AddsRest : List Source → Joined → List TypeSystemDefinition → L
 AddsRest sources joined document standard error old new =
     ((mended : Mended) × IsTouchedBy document error mended.touched × AddsMendedFaults sources joined document standard mended old new)
     ⊎ AddsPlainFaults sources joined document standard old new
-
--- those of a schema of these definitions; or why they could not be read again
-abbrev pub IsJudged : List Source → Joined → SourceSchema → List Fault → List Fault → Type 0
-IsJudged sources joined schema old new =
-    ((document : List TypeSystemDefinition) × (standard : List TypeSystemDefinition)
-    × AddsTypeSystemFaults sources joined document standard schema old new)
-    ⊎ ((error : SchemaReadError) × AddsFaultsOf sources joined error old new)

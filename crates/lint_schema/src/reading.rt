@@ -1,9 +1,9 @@
 //! Reads a schema from its files.
 ghost use Rattle.std.specs.Prelude.{◌≡◌, ◌<◌, [], IfOk, IfSome, None, OnOk, length};
-ghost use Rattle.lint_schema.specs.Judged.{AddsRest, IsJudged};
+ghost use Rattle.lint_schema.specs.Judged.{AddsRest};
 ghost use Rattle.sdl_faults.specs.Valid.{IsValidSchema};
 
-use crate::definitions::definitions_of;
+use crate::definitions::{Definitions, add_syntax_faults, definitions_of};
 use crate::faults::add_schema_faults;
 use crate::judging::{add_mended_faults, add_plain_faults, add_type_system_faults};
 use graphql_reader::type_system::TypeSystemDefinition;
@@ -13,8 +13,8 @@ use lint_sources::faults::Fault;
 use lint_sources::sources::{Joined, Source};
 use schema::model::{Dialect, SchemaTypeOf};
 use sdl_directives::STANDARD_DIRECTIVES;
-use sdl_mending::{Mended, Touched, mended_text};
-use sdl_reader::{SchemaReadError, read_schema};
+use sdl_mending::{Mended, Touched};
+use sdl_reader::{SchemaReadError, schema_of_document};
 use sdl_scalars::check::SourceCheck;
 use std::alloc::Global;
 
@@ -41,19 +41,103 @@ pub fn schema_of(
     ensures valid { IfOk result (λ read. IfSome read IsValidSchema) }
     ensures dialect { IfOk result (λ read. IfSome read (λ schema. schema.dialect ≡ dialect)) }
 {
-    let joined = definitions_of(alloc, sources, faults)?;
+    let definitions = definitions_of(alloc, sources, faults)?;
     if !faults.is_empty() {
         return Ok(None);
     }
-    schema_of_joined(alloc, dialect, sources, &joined, faults)
+    schema_of_text(alloc, dialect, sources, &definitions, faults)
 }
 
-// The schema of these definitions.
-fn schema_of_joined(
+// The schema of these definitions, where there is no fault yet.
+fn schema_of_text(
+    alloc: Global,
+    dialect: Dialect,
+    sources: &[Source],
+    definitions: &Definitions,
+    faults: &mut Vec<Fault>,
+) -> Result<Option<SourceSchema>, OutOfMemory>
+    ensures some { IfOk result (λ read. IfSome read (λ _. faults.new.items ≡ [])) }
+    ensures none { IfOk result (λ read. read ≡ None → 0 < length faults.new.items) }
+    ensures valid { IfOk result (λ read. IfSome read IsValidSchema) }
+    ensures dialect { IfOk result (λ read. IfSome read (λ schema. schema.dialect ≡ dialect)) }
+{
+    let joined = &definitions.joined;
+    match documents_of(alloc, joined.text()) {
+        Ok((document, standard)) => schema_of_read(
+            alloc,
+            dialect,
+            sources,
+            definitions,
+            document.as_slice(),
+            standard.as_slice(),
+            faults,
+        ),
+        Err(error) => {
+            add_unread(
+                alloc,
+                sources,
+                joined,
+                &SchemaReadError::from(error),
+                faults,
+            )?;
+            Ok(None)
+        }
+    }
+}
+
+// Adds why these definitions can't be read. Where there are several files, that is the syntax error of each.
+fn add_unread(
+    alloc: Global,
+    sources: &[Source],
+    joined: &Joined,
+    error: &SchemaReadError<'_>,
+    faults: &mut Vec<Fault>,
+) -> Result<(), OutOfMemory>
+    ensures { OnOk result (0 < length faults.new.items) }
+{
+    if sources.len() > 1 {
+        add_syntax_faults(alloc, sources, faults)?;
+    }
+    if !faults.is_empty() {
+        return Ok(());
+    }
+    add_schema_faults(alloc, sources, joined, error, faults)
+}
+
+// The schema of these definitions that were read. Each of several files must be definitions by itself, so that no token
+// reaches from one into the next.
+fn schema_of_read<'d, 't>(
+    alloc: Global,
+    dialect: Dialect,
+    sources: &[Source],
+    definitions: &'t Definitions,
+    document: &'d [TypeSystemDefinition<'t>],
+    standard: &'d [TypeSystemDefinition<'t>],
+    faults: &mut Vec<Fault>,
+) -> Result<Option<SourceSchema>, OutOfMemory>
+    ensures some { IfOk result (λ read. IfSome read (λ _. faults.new.items ≡ [])) }
+    ensures none { IfOk result (λ read. read ≡ None → 0 < length faults.new.items) }
+    ensures valid { IfOk result (λ read. IfSome read IsValidSchema) }
+    ensures dialect { IfOk result (λ read. IfSome read (λ schema. schema.dialect ≡ dialect)) }
+{
+    if sources.len() > 1 && !definitions.are_of_files(sources, document) {
+        add_syntax_faults(alloc, sources, faults)?;
+    }
+    if !faults.is_empty() {
+        return Ok(None);
+    }
+    let joined = &definitions.joined;
+    schema_of_definitions(alloc, dialect, sources, joined, document, standard, faults)
+}
+
+// The schema of these definitions, each within a file.
+fn schema_of_definitions<'d, 't>(
     alloc: Global,
     dialect: Dialect,
     sources: &[Source],
     joined: &Joined,
+    document: &'d [TypeSystemDefinition<'t>],
+    standard: &'d [TypeSystemDefinition<'t>],
     faults: &mut Vec<Fault>,
 ) -> Result<Option<SourceSchema>, OutOfMemory>
     ensures some { IfOk result (λ read. IfSome read (λ _. faults.new.items ≡ faults.old.items)) }
@@ -61,8 +145,11 @@ fn schema_of_joined(
     ensures valid { IfOk result (λ read. IfSome read IsValidSchema) }
     ensures dialect { IfOk result (λ read. IfSome read (λ schema. schema.dialect ≡ dialect)) }
 {
-    match read_schema(alloc, joined.text()) {
-        Ok(schema) => judged(alloc, sources, joined, in_dialect(schema, dialect), faults),
+    match schema_of_document(alloc, document) {
+        Ok(read) => {
+            let schema = in_dialect(read, dialect);
+            judged(alloc, sources, joined, document, standard, schema, faults)
+        }
         Err(error) => {
             add_refusal(alloc, sources, joined, &error, faults)?;
             Ok(None)
@@ -70,7 +157,7 @@ fn schema_of_joined(
     }
 }
 
-// Adds why the definitions make no schema, and what else is wrong with them, if they can be read.
+// Adds why the definitions make no schema, and what else is wrong with them.
 fn add_refusal(
     alloc: Global,
     sources: &[Source],
@@ -81,36 +168,15 @@ fn add_refusal(
     ensures { OnOk result (0 < length faults.new.items) }
 {
     add_schema_faults(alloc, sources, joined, error, faults)?;
-    let left = left_of(alloc, joined.text(), error)?;
-    add_rest(alloc, sources, joined, left.as_str(), error, faults)
-}
-
-// What is left of a text without what the reasons touch.
-fn left_of<'t>(
-    alloc: Global,
-    text: &'t str,
-    error: &'t SchemaReadError<'t>,
-) -> Result<String, OutOfMemory> {
-    let SchemaReadError::Faults(reasons) = error else {
-        return Ok(String::new(alloc));
-    };
-    match read_type_system(alloc, text) {
-        Ok(document) => {
-            let touched = Touched::by_reasons(alloc, document.as_slice(), reasons.as_slice())?;
-            mended_text(alloc, text, document.as_slice(), &touched)
-        }
-        Err(ReadError::Syntax(_)) => Ok(String::new(alloc)),
-        Err(ReadError::OutOfMemory) => Err(OutOfMemory),
-    }
+    add_rest(alloc, sources, joined, error, faults)
 }
 
 // Adds what is wrong with the definitions beside why they make no schema. They are read again, so that they live as
-// long as what is left of them.
+// long as the error, whose names are kept beside theirs.
 fn add_rest<'t>(
     alloc: Global,
     sources: &[Source],
     joined: &'t Joined,
-    left: &'t str,
     error: &'t SchemaReadError<'t>,
     faults: &mut Vec<Fault>,
 ) -> Result<(), OutOfMemory>
@@ -123,7 +189,6 @@ fn add_rest<'t>(
             joined,
             document.as_slice(),
             standard.as_slice(),
-            left,
             error,
             faults,
         ),
@@ -135,10 +200,9 @@ fn add_rest<'t>(
 fn add_untouched<'d, 't>(
     alloc: Global,
     sources: &[Source],
-    joined: &Joined,
+    joined: &'t Joined,
     document: &'d [TypeSystemDefinition<'t>],
     standard: &'d [TypeSystemDefinition<'t>],
-    left: &'t str,
     error: &'t SchemaReadError<'t>,
     faults: &mut Vec<Fault>,
 ) -> Result<(), OutOfMemory>
@@ -149,7 +213,7 @@ fn add_untouched<'d, 't>(
         return add_plain_faults(alloc, sources, joined, document, standard, faults);
     };
     let touched = Touched::by_reasons(alloc, document, reasons.as_slice())?;
-    match Mended::of_text(alloc, left, touched)? {
+    match mended_of(alloc, joined.text(), touched)? {
         Some(mended) => {
             add_mended_faults(alloc, sources, joined, document, standard, &mended, faults)
         }
@@ -157,7 +221,24 @@ fn add_untouched<'d, 't>(
     }
 }
 
-// The schema in another dialect. It is set before the schema is judged, since which default values conform hangs on it.
+// What is left of a text without what is touched. It is read again, since a tree can't be copied, and the one that was
+// read is still wanted as a whole.
+fn mended_of<'t>(
+    alloc: Global,
+    text: &'t str,
+    touched: Touched<'t>,
+) -> Result<Option<Mended<'t>>, OutOfMemory>
+    ensures { IfOk result (λ read. IfSome read (λ m. m.touched ≡ touched.entry)) }
+{
+    match read_type_system(alloc, text) {
+        Ok(document) => Mended::of_document(alloc, document, touched),
+        Err(ReadError::Syntax(_)) => Ok(None),
+        Err(ReadError::OutOfMemory) => Err(OutOfMemory),
+    }
+}
+
+// The schema in another dialect. It is set before the schema is judged, since which default values conform depends on
+// it.
 fn in_dialect(schema: SourceSchema, dialect: Dialect) -> SourceSchema
     ensures { result ≡ record schema { dialect = dialect } }
 {
@@ -167,10 +248,12 @@ fn in_dialect(schema: SourceSchema, dialect: Dialect) -> SourceSchema
 }
 
 // A schema of these definitions, unless it has faults.
-fn judged(
+fn judged<'d, 't>(
     alloc: Global,
     sources: &[Source],
     joined: &Joined,
+    document: &'d [TypeSystemDefinition<'t>],
+    standard: &'d [TypeSystemDefinition<'t>],
     schema: SourceSchema,
     faults: &mut Vec<Fault>,
 ) -> Result<Option<SourceSchema>, OutOfMemory>
@@ -180,41 +263,11 @@ fn judged(
     ensures dialect { IfOk result (λ read. IfSome read (λ kept. kept.dialect ≡ schema.dialect)) }
 {
     let before = faults.len();
-    judge(alloc, sources, joined, &schema, faults)?;
+    add_type_system_faults(alloc, sources, joined, document, standard, &schema, faults)?;
     if faults.len() > before {
         return Ok(None);
     }
     Ok(Some(schema))
-}
-
-// Adds what is wrong with a schema of these definitions. They are read again, for the places and the directives.
-fn judge(
-    alloc: Global,
-    sources: &[Source],
-    joined: &Joined,
-    schema: &SourceSchema,
-    faults: &mut Vec<Fault>,
-) -> Result<(), OutOfMemory>
-    ensures { OnOk result (IsJudged sources.now joined.now schema.now faults.old.items faults.new.items) }
-{
-    match documents_of(alloc, joined.text()) {
-        Ok((document, standard)) => add_type_system_faults(
-            alloc,
-            sources,
-            joined,
-            document.as_slice(),
-            standard.as_slice(),
-            schema,
-            faults,
-        ),
-        Err(error) => add_schema_faults(
-            alloc,
-            sources,
-            joined,
-            &SchemaReadError::from(error),
-            faults,
-        ),
-    }
 }
 
 // The definitions of a text, and those of the directives that each text may use.

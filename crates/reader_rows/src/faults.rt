@@ -2,13 +2,12 @@
 use crate::made::made_schema;
 use graphql_reader::type_system::TypeSystemDefinition;
 use graphql_reader::{SourceScalar, read_type_system};
-use language_types::error::OutOfMemory;
 use language_types::position::SourcePosition;
 use schema::model::SchemaType;
 use sdl_directives::STANDARD_DIRECTIVES;
 use sdl_faults::{LocatedFault, plain_text_faults, rest_of_text_faults, text_faults};
-use sdl_mending::{Mended, Touched, mended_text};
-use sdl_reader::{SchemaReadError, read_schema};
+use sdl_mending::{Mended, Touched};
+use sdl_reader::{SchemaReadError, schema_of_document};
 use std::alloc::{AllocError, Global};
 
 /// Appends each fault of a schema: line and column, counted from 1, and its text; then a line for each further place.
@@ -24,14 +23,9 @@ pub fn tell_schema_faults(alloc: Global, text: &str, came: &mut String) -> Resul
     let Ok(standard) = read_type_system(alloc, STANDARD_DIRECTIVES) else {
         return came.push_str("no document\n");
     };
-    match read_schema(alloc, text) {
-        Ok(schema) => tell_read(
-            alloc,
-            document.as_slice(),
-            standard.as_slice(),
-            &schema,
-            came,
-        ),
+    let (document, standard) = (document.as_slice(), standard.as_slice());
+    match schema_of_document(alloc, document) {
+        Ok(schema) => tell_read(alloc, document, standard, &schema, came),
         Err(error) => tell_refusal(alloc, text, &error, came),
     }
 }
@@ -44,10 +38,7 @@ fn tell_refusal(
     came: &mut String,
 ) -> Result<(), AllocError> {
     tell_reasons(error, came)?;
-    match left_of(alloc, text, error) {
-        Ok(left) => tell_rest(alloc, text, left.as_str(), error, came),
-        Err(_) => came.push_str("out of memory\n"),
-    }
+    tell_rest(alloc, text, error, came)
 }
 
 // Why a text makes no schema.
@@ -62,27 +53,11 @@ fn tell_reasons(error: &SchemaReadError<'_>, came: &mut String) -> Result<(), Al
     Ok(())
 }
 
-// What is left of a text without what the reasons touch.
-fn left_of<'t>(
-    alloc: Global,
-    text: &'t str,
-    error: &'t SchemaReadError<'t>,
-) -> Result<String, OutOfMemory> {
-    let SchemaReadError::Faults(reasons) = error else {
-        return Ok(String::new(alloc));
-    };
-    let Ok(document) = read_type_system(alloc, text) else {
-        return Err(OutOfMemory);
-    };
-    let touched = Touched::by_reasons(alloc, document.as_slice(), reasons.as_slice())?;
-    mended_text(alloc, text, document.as_slice(), &touched)
-}
-
-// The faults of a text that makes no schema for these reasons.
+// The faults of a text that makes no schema for these reasons. It is read again, so that its definitions live as long
+// as the reasons.
 fn tell_rest<'t>(
     alloc: Global,
     text: &'t str,
-    left: &'t str,
     error: &'t SchemaReadError<'t>,
     came: &mut String,
 ) -> Result<(), AllocError> {
@@ -92,21 +67,15 @@ fn tell_rest<'t>(
     let Ok(standard) = read_type_system(alloc, STANDARD_DIRECTIVES) else {
         return came.push_str("no document\n");
     };
-    tell_untouched(
-        alloc,
-        document.as_slice(),
-        standard.as_slice(),
-        left,
-        error,
-        came,
-    )
+    let (document, standard) = (document.as_slice(), standard.as_slice());
+    tell_untouched(alloc, text, document, standard, error, came)
 }
 
 fn tell_untouched<'d, 't>(
     alloc: Global,
+    text: &'t str,
     document: &'d [TypeSystemDefinition<'t>],
     standard: &'d [TypeSystemDefinition<'t>],
-    left: &'t str,
     error: &'t SchemaReadError<'t>,
     came: &mut String,
 ) -> Result<(), AllocError> {
@@ -116,7 +85,10 @@ fn tell_untouched<'d, 't>(
     let Ok(touched) = Touched::by_reasons(alloc, document, reasons.as_slice()) else {
         return came.push_str("out of memory\n");
     };
-    match Mended::of_text(alloc, left, touched) {
+    let Ok(again) = read_type_system(alloc, text) else {
+        return came.push_str("no document\n");
+    };
+    match Mended::of_document(alloc, again, touched) {
         Ok(Some(mended)) => tell_mended(alloc, document, standard, &mended, came),
         Ok(None) => tell_plain(alloc, document, standard, came),
         Err(_) => came.push_str("out of memory\n"),

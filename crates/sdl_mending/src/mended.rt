@@ -1,13 +1,13 @@
-//! The text without what reasons touch, and its schema.
+//! The document without what reasons touch, and its schema.
 ghost use Rattle.std.specs.Prelude.{◌≡◌, IfOk, IfSome};
 
-use crate::shells::add_shells;
-use crate::touched::{Touched, span_of};
+use crate::shells::shells_of;
+use crate::touched::Touched;
+use graphql_reader::SourceScalar;
 use graphql_reader::type_system::TypeSystemDefinition;
-use graphql_reader::{SourceScalar, read_type_system};
 use language_types::error::OutOfMemory;
 use schema::model::{Dialect, SchemaTypeOf};
-use sdl_reader::{SchemaReadError, read_schema};
+use sdl_reader::{SchemaReadError, schema_of_document};
 use sdl_scalars::check::SourceCheck;
 use std::alloc::Global;
 
@@ -16,28 +16,31 @@ use std::alloc::Global;
 pub struct Mended<'a> {
     /// What is left out.
     pub touched: Touched<'a>,
-    /// What is left, with a definition without members for each touched type.
+    /// A definition without members for each touched type, and then what is left.
     pub document: Vec<TypeSystemDefinition<'a>>,
     /// The schema of this document. Its dialect is that of October 2021, in which a scalar takes any value.
     pub schema: SchemaTypeOf<SourceScalar, SourceCheck>,
 }
 
 impl<'a> Mended<'a> {
-    /// The definitions of a mended text, and their schema; `None` where they make none, either.
+    /// What is left of a document without what is touched, and its schema; `None` where it makes none, either. Each
+    /// touched type of the document is defined without members: as an object if it is one, and else as a scalar, which
+    /// takes any value.
     ///
     /// # Errors
     ///
     /// Out of memory.
-    pub fn of_text(
+    pub fn of_document(
         alloc: Global,
-        text: &'a str,
+        document: Vec<TypeSystemDefinition<'a>>,
         touched: Touched<'a>,
     ) -> Result<Option<Mended<'a>>, OutOfMemory>
         ensures touched { IfOk result (λ read. IfSome read (λ m. m.touched ≡ touched.entry)) }
         ensures dialect { IfOk result (λ read. IfSome read (λ m. m.schema.dialect ≡ Dialect.October2021)) }
     {
-        match read_both(alloc, text) {
-            Ok((document, read)) => {
+        let document = left_of(alloc, document, &touched)?;
+        match schema_of_document(alloc, document.as_slice()) {
+            Ok(read) => {
                 let mut schema = read;
                 schema.set_dialect(Dialect::October2021);
                 Ok(Some(Mended {
@@ -52,69 +55,17 @@ impl<'a> Mended<'a> {
     }
 }
 
-type Read<'a> = (
-    Vec<TypeSystemDefinition<'a>>,
-    SchemaTypeOf<SourceScalar, SourceCheck>,
-);
-
-fn read_both<'a>(alloc: Global, text: &'a str) -> Result<Read<'a>, SchemaReadError<'a>> {
-    let schema = read_schema(alloc, text)?;
-    let document = read_type_system(alloc, text)?;
-    Ok((document, schema))
-}
-
-/// A text that makes no schema, without what the reasons touch, by its document. Each definition that is left out is
-/// blank, so that all others keep their places. Behind them each touched type of the text is defined without members:
-/// as an object if it is one, and else as a scalar, which takes any value.
-///
-/// # Errors
-///
-/// Out of memory.
-pub fn mended_text(
+// The document without what is touched, behind definitions without members.
+fn left_of<'a>(
     alloc: Global,
-    text: &str,
-    document: &[TypeSystemDefinition<'_>],
+    document: Vec<TypeSystemDefinition<'a>>,
     touched: &Touched<'_>,
-) -> Result<String, OutOfMemory> {
-    let mut left = String::new(alloc);
-    add_left(text, document, touched, &mut left)?;
-    add_shells(alloc, document, touched, &mut left)?;
-    Ok(left)
-}
-
-// Appends the text, with blanks for what is touched.
-fn add_left(
-    text: &str,
-    document: &[TypeSystemDefinition<'_>],
-    touched: &Touched<'_>,
-    left: &mut String,
-) -> Result<(), OutOfMemory> {
-    let mut seen = 0;
+) -> Result<Vec<TypeSystemDefinition<'a>>, OutOfMemory> {
+    let mut left = shells_of(alloc, document.as_slice(), touched)?;
     for definition in document {
-        if touched.has_definition(definition) {
-            let span = span_of(definition);
-            let (start, end) = (span.start.index(), span.end.index());
-            left.push_str(part_of(text, seen, start))?;
-            add_blank(part_of(text, start, end), left)?;
-            seen = end;
+        if !touched.has_definition(&definition) {
+            left.push(definition)?;
         }
     }
-    left.push_str(part_of(text, seen, text.len()))?;
-    Ok(())
-}
-
-fn part_of(text: &str, start: usize, end: usize) -> &str {
-    text.get(start..end).unwrap_or("")
-}
-
-// Appends as many bytes of blanks, in as many lines.
-fn add_blank(text: &str, left: &mut String) -> Result<(), OutOfMemory> {
-    for byte in text.bytes() {
-        left.push(match byte {
-            b'\n' => '\n',
-            b'\r' => '\r',
-            _ => ' ',
-        })?;
-    }
-    Ok(())
+    Ok(left)
 }

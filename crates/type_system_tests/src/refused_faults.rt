@@ -3,7 +3,7 @@ use graphql_reader::read_type_system;
 use language_types::error::OutOfMemory;
 use sdl_directives::STANDARD_DIRECTIVES;
 use sdl_faults::{plain_text_faults, rest_of_text_faults, text_faults};
-use sdl_mending::{Mended, Touched, mended_text};
+use sdl_mending::{Mended, Touched};
 use sdl_reader::{PlacedFault, SchemaReadError, read_schema};
 use std::alloc::Global;
 
@@ -100,27 +100,9 @@ fn rest_count(alloc: Global, text: &str) -> Result<usize, SchemaReadError<'_>> {
     }
 }
 
-fn rest_of(alloc: Global, text: &str, reasons: &[PlacedFault<'_>]) -> Result<usize, OutOfMemory> {
-    let left = left_of(alloc, text, reasons)?;
-    count_of(alloc, text, left.as_str(), reasons)
-}
-
-fn left_of<'t>(
+fn rest_of<'t>(
     alloc: Global,
     text: &'t str,
-    reasons: &'t [PlacedFault<'t>],
-) -> Result<String, OutOfMemory> {
-    let Ok(document) = read_type_system(alloc, text) else {
-        return Err(OutOfMemory);
-    };
-    let touched = Touched::by_reasons(alloc, document.as_slice(), reasons)?;
-    mended_text(alloc, text, document.as_slice(), &touched)
-}
-
-fn count_of<'t>(
-    alloc: Global,
-    text: &'t str,
-    left: &'t str,
     reasons: &'t [PlacedFault<'t>],
 ) -> Result<usize, OutOfMemory> {
     let Ok(document) = read_type_system(alloc, text) else {
@@ -129,13 +111,24 @@ fn count_of<'t>(
     let Ok(standard) = read_type_system(alloc, STANDARD_DIRECTIVES) else {
         return Err(OutOfMemory);
     };
-    let touched = Touched::by_reasons(alloc, document.as_slice(), reasons)?;
-    match Mended::of_text(alloc, left, touched)? {
+    let (document, standard) = (document.as_slice(), standard.as_slice());
+    let touched = Touched::by_reasons(alloc, document, reasons)?;
+    match left_of(alloc, text, touched)? {
         Some(mended) => {
-            let (document, standard) = (document.as_slice(), standard.as_slice());
             let told = rest_of_text_faults(alloc, document, standard, &mended)?;
             Ok(told.len())
         }
         None => Ok(0),
+    }
+}
+
+fn left_of<'t>(
+    alloc: Global,
+    text: &'t str,
+    touched: Touched<'t>,
+) -> Result<Option<Mended<'t>>, OutOfMemory> {
+    match read_type_system(alloc, text) {
+        Ok(document) => Mended::of_document(alloc, document, touched),
+        Err(_) => Err(OutOfMemory),
     }
 }
