@@ -88,7 +88,7 @@ pub fn read_file<I: Inputs>(
     faults: &mut Vec<Fault>,
 ) -> Result<Source, Failure> {
     match inputs.read(alloc, path) {
-        Ok(bytes) => match source_of(alloc, path, bytes.as_slice(), faults)? {
+        Ok(bytes) => match source_of(alloc, path, bytes, faults)? {
             Some(source) => Ok(source),
             None => Err(Failure::Told),
         },
@@ -106,7 +106,7 @@ fn read_source<I: Inputs>(
     ensures { IfOk result (λ read. IfSome read (IsFileOf (I.host inputs.now) path.now)) }
 {
     match inputs.read(alloc, path) {
-        Ok(bytes) => source_of(alloc, path, bytes.as_slice(), faults),
+        Ok(bytes) => source_of(alloc, path, bytes, faults),
         Err(error) => {
             faults.push(Fault::new(alloc, path, "", None, &unread(error))?)?;
             Ok(None)
@@ -122,21 +122,23 @@ fn unread(error: io::Error) -> io::Error {
     }
 }
 
+// The file of these bytes, which become its text without a copy.
 fn source_of(
     alloc: Global,
     path: &str,
-    bytes: &[u8],
+    bytes: Vec<u8>,
     faults: &mut Vec<Fault>,
 ) -> Result<Option<Source>, Failure>
-    ensures { IfOk result (λ read. IfSome read (HasText path.now bytes.now)) }
+    ensures { IfOk result (λ read. IfSome read (HasText path.now bytes.items)) }
 {
-    match str::from_utf8(bytes) {
-        Ok(text) => Ok(Some(Source {
-            path: String::from_str(alloc, path)?,
-            text: String::from_str(alloc, text)?,
-        })),
+    match String::from_utf8(bytes) {
+        Ok(text) => {
+            let path = String::from_str(alloc, path)?;
+            Ok(Some(Source { path, text }))
+        }
         Err(error) => {
-            faults.push(encoding_fault(alloc, path, bytes, error.valid_up_to())?)?;
+            let valid = error.utf8_error().valid_up_to();
+            faults.push(encoding_fault(alloc, path, error.as_bytes(), valid)?)?;
             Ok(None)
         }
     }
