@@ -14,7 +14,6 @@ use Rattle.language.specs.declared.tree.InlineFragment.{InlineFragment}
 use Rattle.language.specs.declared.tree.Selection.{Selection, out-Selection, out-roll-Selection}
 use Rattle.language.specs.declared.tree.Selection.TheOpen as opened
 use Rattle.language.specs.declared.tree.Selection.TheVariants as selection
-use Rattle.language_values.specs.declared.value.InputValue.{InputValue}
 use Rattle.bit_matrix.specs.declared.set.BitSet.{BitSet}
 use Rattle.bit_matrix.specs.Set.{has}
 use Rattle.fragment_graph.specs.declared.numbers.Numbers.{Numbers}
@@ -74,21 +73,21 @@ module _ {S C : Type 0} (schema : Catalog S C) (document : List (Definition S)) 
       ∙ ap (λ b. Unless b (of_fragment schema document root names name (Some f))) fresh
       ∙ ap (λ b. if b then inside f.item.selection_set.items (name ∷ names) else nothing) fits
 
-  module _ (print : InputValue S → List ℕ) (names : List (List ℕ)) (s : Selection S) where
+  module _ (truth : S → Option Bool) (names : List (List ℕ)) (s : Selection S) where
     abbrev Gives : Part S → Type 0
-    Gives p = part print schema document root names s ≡ p
+    Gives p = part truth schema document root names s ≡ p
 
     -- by the kind of the selection
-    pub part_field : (f : Placed (Field S)) → s ≡ selection.Field f → Gives (Unless (are_leaving_out print f.item.directives) (field f))
-    part_field f e = ap (of_layer print schema document root names)
+    pub part_field : (f : Placed (Field S)) → s ≡ selection.Field f → Gives (Unless (are_leaving_out truth f.item.directives) (field f))
+    part_field f e = ap (of_layer truth schema document root names)
         (ap (out-Selection S) (e ∙ sym (selection.rolls-Field f)) ∙ out-roll-Selection S (opened.Field f))
 
     pub part_spread : (p : Placed (FragmentSpread S)) → s ≡ selection.FragmentSpread p
-        → Gives (Unless (are_leaving_out print p.item.directives) (of_spread schema document root names p.item.name.item.now))
-    part_spread p e = ap (of_layer print schema document root names)
+        → Gives (Unless (are_leaving_out truth p.item.directives) (of_spread schema document root names p.item.name.item.now))
+    part_spread p e = ap (of_layer truth schema document root names)
         (ap (out-Selection S) (e ∙ sym (selection.rolls-FragmentSpread p)) ∙ out-roll-Selection S (opened.FragmentSpread p))
 
     pub part_inline : (i : Placed (InlineFragment S)) → s ≡ selection.InlineFragment i
-        → Gives (Unless (are_leaving_out print i.item.directives) (of_inline schema document root names i.item))
-    part_inline i e = ap (of_layer print schema document root names)
+        → Gives (Unless (are_leaving_out truth i.item.directives) (of_inline schema document root names i.item))
+    part_inline i e = ap (of_layer truth schema document root names)
         (ap (out-Selection S) (e ∙ sym (selection.rolls-InlineFragment i)) ∙ out-roll-Selection S (opened.InlineFragment i))

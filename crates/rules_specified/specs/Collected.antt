@@ -1,5 +1,5 @@
 -- The fields that are collected from a selection set at a root, with no values of variables (section 6.3.2).
-use Rattle.std.specs.Prelude.{◌≡◌, ℕ, List, [], ◌∷◌, ◌++◌, Bool, true, false, ◌&&◌, ◌||◌, Option, Some, None}
+use Rattle.std.specs.Prelude.{◌≡◌, ℕ, List, [], ◌∷◌, ◌++◌, Bool, true, false, not, ◌&&◌, ◌||◌, Option, Some, None}
 use Rattle.std.specs.Prelude.{if◌then◌else◌, option_and_then, codes}
 use Rattle.std.specs.List.{list_any}
 use Rattle.std.specs.Option.{option_map_or, option_or}
@@ -73,18 +73,30 @@ module _ {S : Type 0} where
     abbrev pub of_spread : List (List ℕ) → List ℕ → Part S
     of_spread names name = if is_among names name then nothing else of_fragment names name (last_fragment document name)
 
-  module _ (print : InputValue S → List ℕ) where
-    -- the value is there, and this is its text
-    abbrev pub is_given : List ℕ → Option (Placed (InputValue S)) → Bool
-    is_given text given = option_map_or (λ v. bytes_eq (print v.item) text) given false
+  module _ (truth : S → Option Bool) where
+    abbrev truth_layer : {A : Type 0} → opened_value.InputValue-F S A → Option Bool
+    truth_layer (opened_value.Scalar s) = truth s
+    truth_layer _ = None
+
+    -- the value of a Boolean
+    abbrev pub truth_of : InputValue S → Option Bool
+    truth_of v = truth_layer (out-InputValue S v)
+
+    -- an argument is there, and it is `true`
+    abbrev pub is_true : Option (Placed (InputValue S)) → Bool
+    is_true given = option_map_or (λ v. option_map_or (λ b. b) (truth_of v.item) false) given false
+
+    -- an argument is there, and it is `false`
+    abbrev pub is_false : Option (Placed (InputValue S)) → Bool
+    is_false given = option_map_or (λ v. option_map_or (λ b. not b) (truth_of v.item) false) given false
 
     -- `@include` whose `if` is `false` or a variable
     abbrev pub is_not_included : Option (Placed (InputValue S)) → Bool
-    is_not_included given = option_map_or (λ v. is_variable v.item) given false || is_given (codes "false") given
+    is_not_included given = option_map_or (λ v. is_variable v.item) given false || is_false given
 
     -- a directive `@skip(if: true)`, or such an `@include`
     abbrev pub leaves_out : Directive S → Bool
-    leaves_out d = if bytes_eq d.name.item.now (codes "skip") then is_given (codes "true") (given_if d)
+    leaves_out d = if bytes_eq d.name.item.now (codes "skip") then is_true (given_if d)
         else if bytes_eq d.name.item.now (codes "include") then is_not_included (given_if d) else false
 
     -- one of the directives leaves out what they stand at

@@ -1,4 +1,5 @@
 -- What is known while fields are collected.
+use Rattle.std.specs.Prelude.{Bool}
 use Rattle.std.specs.Prelude.{◌≡◌, ◌++◌, ℕ, List, [], ◌∷◌, Option, Some, None, map}
 use Rattle.language_types.specs.Names.{is_among}
 use Rattle.language.specs.declared.tree.Definition.{Definition}
@@ -6,7 +7,6 @@ use Rattle.language.specs.declared.tree.Definition.TheVariants as definition
 use Rattle.language.specs.declared.tree.Field.{Field}
 use Rattle.language.specs.declared.tree.Fragment.{Fragment}
 use Rattle.language.specs.declared.tree.Selection.{Selection}
-use Rattle.language_values.specs.declared.value.InputValue.{InputValue}
 use Rattle.bit_matrix.specs.declared.set.BitSet.{BitSet}
 use Rattle.bit_matrix.specs.Set.{has}
 use Rattle.fragment_graph.specs.declared.numbers.Numbers.{Numbers}
@@ -46,12 +46,12 @@ module _ {S : Type 0} where
   IsPart names after p (found.Field f) = (p ≡ field f.now) × (after ≡ names)
   IsPart names after p (found.Inside set) = p ≡ inside set.now after
 
-  module _ {C : Type 0} (print : InputValue S → List ℕ) (root : Root S C) where
+  module _ {C : Type 0} (truth : S → Option Bool) (root : Root S C) where
     abbrev pub part_at : List (List ℕ) → Selection S → Part S
-    part_at names s = part print root.schema.now root.document.now root.name.now names s
+    part_at names s = part truth root.schema.now root.document.now root.name.now names s
 
     abbrev pub CollectsAt : List (List ℕ) → List (Selection S) → List (Placed (Field S)) → List (List ℕ) → Type 0
-    CollectsAt = Collects print root.schema.now root.document.now root.name.now
+    CollectsAt = Collects truth root.schema.now root.document.now root.name.now
 
     -- from one set after the other
     abbrev pub CollectsAll : List (List ℕ) → List (List (Selection S)) → List (Placed (Field S)) → List (List ℕ) → Type 0

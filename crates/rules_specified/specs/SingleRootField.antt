@@ -11,7 +11,6 @@ use Rattle.language.specs.declared.tree.Field.{Field}
 use Rattle.language.specs.declared.tree.Operation.{Operation}
 use Rattle.language.specs.declared.tree.OperationType.{OperationType}
 use Rattle.language.specs.declared.tree.OperationType.TheVariants as kind
-use Rattle.language_values.specs.declared.value.InputValue.{InputValue}
 use Rattle.meta.specs.Kinds.{name_of_meta}
 use Rattle.schema.specs.Catalog.{Catalog, root_type}
 use Rattle.events.specs.Node.{Name, Placed}
@@ -87,10 +86,10 @@ module _ {S : Type 0} where
     abbrev pub root_name : Catalog S C → Option (List ℕ)
     root_name schema = option_and_then name_of_meta (root_type schema kind.Subscription)
 
-  module _ {C : Type 0} (print : InputValue S → List ℕ) (schema : Catalog S C) (document : List (Definition S)) where
+  module _ {C : Type 0} (truth : S → Option Bool) (schema : Catalog S C) (document : List (Definition S)) where
     -- these fields are collected at the root of an operation
     abbrev pub AreCollected : List ℕ → Placed (Operation S) → List (Placed (Field S)) → Type 0
-    AreCollected root o fs = (after : List (List ℕ)) × Collects print schema document root [] o.item.selection_set.items fs after
+    AreCollected root o fs = (after : List (List ℕ)) × Collects truth schema document root [] o.item.selection_set.items fs after
 
     abbrev pub TellsRoot : Option (List ℕ) → OperationType → Placed (Operation S) → List ErrorValue → Type 0
     TellsRoot (Some root) kind.Subscription o es = (fs : List (Placed (Field S))) × AreCollected root o fs × (es ≡ root_errors o fs)
@@ -116,9 +115,9 @@ module _ {S : Type 0} where
     SelectsOne (definition.Fragment f) = Unit {0}
 
 -- what is reported of a document, and what is asked of it
-module _ {S C : Type 0} (print : InputValue S → List ℕ) where
+module _ {S C : Type 0} (truth : S → Option Bool) where
   abbrev pub single_root_errors : {V : Type 0} → DocumentScope S C → List (Definition S) → V → List ErrorValue → Type 0
-  single_root_errors scope document end es = TellsEach print scope.schema document document es
+  single_root_errors scope document end es = TellsEach truth scope.schema document document es
 
   abbrev pub SelectOne : DocumentScope S C → List (Definition S) → Type 0
-  SelectOne scope document = All (SelectsOne print scope.schema document) document
+  SelectOne scope document = All (SelectsOne truth scope.schema document) document

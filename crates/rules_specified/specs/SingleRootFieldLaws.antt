@@ -13,7 +13,6 @@ use Rattle.language.specs.declared.tree.Operation.{Operation}
 use Rattle.language.specs.declared.tree.OperationType.{OperationType}
 use Rattle.language.specs.declared.tree.OperationType.TheVariants as kind
 use Rattle.language.specs.declared.tree.Selection.{Selection}
-use Rattle.language_values.specs.declared.value.InputValue.{InputValue}
 use Rattle.schema.specs.Catalog.{Catalog}
 use Rattle.walk.specs.ErrorValue.{ErrorValue}
 use Rattle.walk.specs.Rule.{SilentIff}
@@ -77,10 +76,10 @@ module _ {S : Type 0} where
         λ (a, b). empty_with _ _ (names.1 a) (inner.1 b),
       )
 
-module _ {S C : Type 0} (print : InputValue S → List ℕ) (schema : Catalog S C) (document : List (Definition S)) where
+module _ {S C : Type 0} (truth : S → Option Bool) (schema : Catalog S C) (document : List (Definition S)) where
   module _ (root : List ℕ) where
     abbrev From : List (List ℕ) → List (Selection S) → List (Placed (Field S)) → List (List ℕ) → Type 0
-    From = Collects print schema document root
+    From = Collects truth schema document root
 
     from_names : {a b after : List (List ℕ)} {set : List (Selection S)} {fs : List (Placed (Field S))} → a ≡ b
         → From a set fs after → From b set fs after
@@ -110,7 +109,7 @@ module _ {S C : Type 0} (print : InputValue S → List ℕ) (schema : Catalog S 
         (cc, left)
 
   root_silent : (root : Option (List ℕ)) (k : OperationType) (o : Placed (Operation S)) (es : List ErrorValue)
-      → TellsRoot print schema document root k o es → (es ≡ []) ↔ IsSingleRoot print schema document root k o
+      → TellsRoot truth schema document root k o es → (es ≡ []) ↔ IsSingleRoot truth schema document root k o
   root_silent (Some root) kind.Subscription o es (fs, (after, collected), is) = let single = single_iff o fs in (
     λ e. (fs, (after, collected), single.0 (sym is ∙ e)),
     λ (gs, (left, again), holds). is ∙ single.1 (subst IsSingle (collects_once root again collected).0 holds),
@@ -119,22 +118,22 @@ module _ {S C : Type 0} (print : InputValue S → List ℕ) (schema : Catalog S 
   root_silent (Some root) kind.Mutation o es e = (λ h. tt, λ u. e)
   root_silent None k o es e = (λ h. tt, λ u. e)
 
-  silent_of : (d : Definition S) (es : List ErrorValue) → Tells print schema document d es → (es ≡ []) ↔ SelectsOne print schema document d
+  silent_of : (d : Definition S) (es : List ErrorValue) → Tells truth schema document d es → (es ≡ []) ↔ SelectsOne truth schema document d
   silent_of (definition.Operation o) es tells = root_silent (root_name schema) o.item.operation_type o es tells
   silent_of (definition.Fragment f) es tells = (λ e. tt, λ u. tells)
 
-  silent_of_each : (ds : List (Definition S)) (es : List ErrorValue) → TellsEach print schema document ds es → (es ≡ [])
-      ↔ All (SelectsOne print schema document) ds
-  silent_of_each [] es is = (λ e. All-nil (SelectsOne print schema document), λ h. is)
+  silent_of_each : (ds : List (Definition S)) (es : List ErrorValue) → TellsEach truth schema document ds es → (es ≡ [])
+      ↔ All (SelectsOne truth schema document) ds
+  silent_of_each [] es is = (λ e. All-nil (SelectsOne truth schema document), λ h. is)
   silent_of_each (d ∷ ds) es (first, rest, tells, more, is) =
       let one = silent_of d first tells in
       let each = silent_of_each ds rest more in (
-        λ e. let (a, b) = both_empty first rest (sym is ∙ e) in All-cons (SelectsOne print schema document) d ds (one.0 a) (each.0 b),
-        λ h. is ∙ empty_with first rest (one.1 (All-head (SelectsOne print schema document) d ds h))
-            (each.1 (All-tail (SelectsOne print schema document) d ds h)),
+        λ e. let (a, b) = both_empty first rest (sym is ∙ e) in All-cons (SelectsOne truth schema document) d ds (one.0 a) (each.0 b),
+        λ h. is ∙ empty_with first rest (one.1 (All-head (SelectsOne truth schema document) d ds h))
+            (each.1 (All-tail (SelectsOne truth schema document) d ds h)),
       )
 
 -- nothing may be reported if and only if each subscription selects exactly one field at its root
-pub single_root_silent : {S C V : Type 0} (print : InputValue S → List ℕ)
-    → SilentIff {S = S} {C = C} {V = V} (given_at_end (single_root_errors print)) (λ scope t doc. SelectOne print scope doc)
-single_root_silent print end scope t doc es h = silent_of_each print scope.schema doc doc es h
+pub single_root_silent : {S C V : Type 0} (truth : S → Option Bool)
+    → SilentIff {S = S} {C = C} {V = V} (given_at_end (single_root_errors truth)) (λ scope t doc. SelectOne truth scope doc)
+single_root_silent truth end scope t doc es h = silent_of_each truth scope.schema doc doc es h

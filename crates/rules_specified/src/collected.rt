@@ -5,12 +5,11 @@ ghost use Rattle.std.specs.Prelude.{◌≡◌, ◌++◌, ◌∷◌, [], ℕ, Lis
 ghost use Rattle.std.specs.Prelude.{reverse, slice_get};
 ghost use Rattle.std.specs.List.{list_any};
 ghost use Rattle.language_types.specs.References.{list_copied};
-ghost use Rattle.language_values.specs.ValuesPrinted.{printed_value};
 ghost use Rattle.language.specs.declared.tree.Field.{Field};
 ghost use Rattle.language_types.specs.Position.{Placed};
 ghost use Rattle.fragment_graph.specs.Numbers.{number_of, NumberedDefinitions};
-ghost use Rattle.rules_specified.specs.Collected.{are_leaving_out, given_if, is_given, is_not_included, last_fragment};
-ghost use Rattle.rules_specified.specs.Collected.{leaves_out, of_inline, of_spread};
+ghost use Rattle.rules_specified.specs.Collected.{are_leaving_out, given_if, is_false, is_not_included, is_true};
+ghost use Rattle.rules_specified.specs.Collected.{is_variable, last_fragment, leaves_out, of_inline, of_spread, truth_of};
 ghost use Rattle.rules_specified.specs.Collecting.{fragment_in, part_at, placed, CollectsAt, IsPart, IsRoot, Leads};
 ghost use Rattle.rules_specified.specs.Collecting.{Marks};
 
@@ -97,81 +96,87 @@ fn given_if<'d, S>(directive: &'d Directive<'_, S>) -> Option<&'d Spanning<Input
     }
 }
 
-// Whether a value is there and has this text.
-fn is_given<S: ScalarValue>(
-    alloc: Global,
-    given: Option<&Spanning<InputValue<S>>>,
-    text: &str,
-) -> Result<bool, AllocError>
-    ensures { IfOk result (λ b. b ≡ is_given (printed_value S.text S.str_of) text.now (option_copied given.entry)) }
+// The value of a Boolean.
+fn truth_of<S: ScalarValue>(value: &InputValue<S>) -> Option<bool>
+    ensures { result ≡ truth_of S.bool_of value.now }
+{
+    match value {
+        InputValue::Scalar(scalar) => scalar.as_bool(),
+        _ => None,
+    }
+}
+
+// Whether an argument is there and is `true`.
+fn is_true<S: ScalarValue>(given: Option<&Spanning<InputValue<S>>>) -> bool
+    ensures { result ≡ is_true S.bool_of (option_copied given.entry) }
 {
     match given {
-        Some(value) => {
-            let value = &value.item;
-            let printed = format!(in alloc; "{value}")?;
-            Ok(printed.as_str() == text)
-        }
-        None => Ok(false),
+        Some(value) => truth_of(&value.item).unwrap_or(false),
+        None => false,
+    }
+}
+
+// Whether an argument is there and is `false`.
+fn is_false<S: ScalarValue>(given: Option<&Spanning<InputValue<S>>>) -> bool
+    ensures { result ≡ is_false S.bool_of (option_copied given.entry) }
+{
+    match given {
+        Some(value) => !truth_of(&value.item).unwrap_or(true),
+        None => false,
+    }
+}
+
+fn is_variable<S>(value: &InputValue<S>) -> bool
+    ensures { result ≡ is_variable value.now }
+{
+    match value {
+        InputValue::Variable(_) => true,
+        _ => false,
     }
 }
 
 // Whether an `if` of `@include` is `false` or a variable.
-fn is_not_included<S: ScalarValue>(
-    alloc: Global,
-    given: Option<&Spanning<InputValue<S>>>,
-) -> Result<bool, AllocError>
-    ensures { IfOk result (λ b. b ≡ is_not_included (printed_value S.text S.str_of) (option_copied given.entry)) }
+fn is_not_included<S: ScalarValue>(given: Option<&Spanning<InputValue<S>>>) -> bool
+    ensures { result ≡ is_not_included S.bool_of (option_copied given.entry) }
 {
-    if let Some(value) = given {
-        if let InputValue::Variable(_) = value.item {
-            return Ok(true);
-        }
+    match given {
+        Some(value) => is_variable(&value.item) || is_false(Some(value)),
+        None => false,
     }
-    is_given(alloc, given, "false")
 }
 
-// Whether a directive leaves out what it stands at.
-fn leaves_out<S: ScalarValue>(
-    alloc: Global,
-    directive: &Directive<'_, S>,
-) -> Result<bool, AllocError>
-    ensures { IfOk result (λ b. b ≡ leaves_out (printed_value S.text S.str_of) directive.now) }
+// Whether a directive leaves out what it is at.
+fn leaves_out<S: ScalarValue>(directive: &Directive<'_, S>) -> bool
+    ensures { result ≡ leaves_out S.bool_of directive.now }
 {
     if directive.name.item == "skip" {
-        return is_given(alloc, given_if(directive), "true");
+        return is_true(given_if(directive));
     }
     if directive.name.item == "include" {
-        return is_not_included(alloc, given_if(directive));
+        return is_not_included(given_if(directive));
     }
-    Ok(false)
+    false
 }
 
 // Whether one of these directives does.
-fn some_leaves_out<S: ScalarValue>(
-    alloc: Global,
-    directives: &[Spanning<Directive<'_, S>>],
-) -> Result<bool, AllocError>
-    ensures { IfOk result (λ b. b
-        ≡ list_any (λ d. leaves_out (printed_value S.text S.str_of) d.item) directives.now) }
+fn some_leaves_out<S: ScalarValue>(directives: &[Spanning<Directive<'_, S>>]) -> bool
+    ensures { result ≡ list_any (λ d. leaves_out S.bool_of d.item) directives.now }
 {
     for directive in directives {
-        if leaves_out(alloc, &directive.item)? {
-            return Ok(true);
+        if leaves_out(&directive.item) {
+            return true;
         }
     }
-    Ok(false)
+    false
 }
 
 // Whether one of the directives of a node does.
-fn are_leaving_out<S: ScalarValue>(
-    alloc: Global,
-    directives: &Option<Vec<Spanning<Directive<'_, S>>>>,
-) -> Result<bool, AllocError>
-    ensures { IfOk result (λ b. b ≡ are_leaving_out (printed_value S.text S.str_of) directives.now) }
+fn are_leaving_out<S: ScalarValue>(directives: &Option<Vec<Spanning<Directive<'_, S>>>>) -> bool
+    ensures { result ≡ are_leaving_out S.bool_of directives.now }
 {
     match directives {
-        Some(directives) => some_leaves_out(alloc, directives.as_slice()),
-        None => Ok(false),
+        Some(directives) => some_leaves_out(directives.as_slice()),
+        None => false,
     }
 }
 
@@ -256,7 +261,6 @@ fn of_spread<'a, S, C>(
 
 // What a selection gives.
 fn found_at<'a, S: ScalarValue, C>(
-    alloc: Global,
     root: &Root<'a, S, C>,
     opened: &mut BitSet,
     selection: &'a Selection<'a, S>,
@@ -264,23 +268,23 @@ fn found_at<'a, S: ScalarValue, C>(
     requires { IsRoot root.now }
     ensures { IfOk result (λ found. (names : List (List ℕ)) → Marks root.now.numbers opened.old names
         → (after : List (List ℕ)) × Marks root.now.numbers opened.new after
-        × IsPart names after (part_at (printed_value S.text S.str_of) root.now names selection.now) found) }
+        × IsPart names after (part_at S.bool_of root.now names selection.now) found) }
 {
     match selection {
         Selection::Field(field) => {
-            if are_leaving_out(alloc, &field.item.directives)? {
+            if are_leaving_out(&field.item.directives) {
                 return Ok(Found::Nothing);
             }
             Ok(Found::Field(field))
         }
         Selection::FragmentSpread(spread) => {
-            if are_leaving_out(alloc, &spread.item.directives)? {
+            if are_leaving_out(&spread.item.directives) {
                 return Ok(Found::Nothing);
             }
             of_spread(root, opened, spread.item.name.item)
         }
         Selection::InlineFragment(inline) => {
-            if are_leaving_out(alloc, &inline.item.directives)? {
+            if are_leaving_out(&inline.item.directives) {
                 return Ok(Found::Nothing);
             }
             Ok(of_inline(root, &inline.item))
@@ -290,7 +294,6 @@ fn found_at<'a, S: ScalarValue, C>(
 
 // Collects what the first selection of a set gives. What is left of the set waits.
 fn collect_first<'a, S: ScalarValue, C>(
-    alloc: Global,
     root: &Root<'a, S, C>,
     set: &'a [Selection<'a, S>],
     state: &mut Collecting<'a, S>,
@@ -299,7 +302,7 @@ fn collect_first<'a, S: ScalarValue, C>(
     ensures { OnOk result ((names : List (List ℕ)) → Marks root.now.numbers state.old.opened names
         → (added : List (Placed (Field S)))
         × (placed state.new.fields.items ≡ placed state.old.fields.items ++ added)
-        × Leads (printed_value S.text S.str_of) root.now state.new.opened
+        × Leads S.bool_of root.now state.new.opened
         (set.now ∷ reverse (list_copied state.old.waiting.items))
         (reverse (list_copied state.new.waiting.items)) added names) }
 {
@@ -307,7 +310,7 @@ fn collect_first<'a, S: ScalarValue, C>(
         return Ok(());
     };
     state.waiting.push(rest)?;
-    match found_at(alloc, root, &mut state.opened, first)? {
+    match found_at(root, &mut state.opened, first)? {
         Found::Nothing => {}
         Found::Field(field) => state.fields.push(RootField { field })?,
         Found::Inside(inner) => state.waiting.push(inner)?,
@@ -327,7 +330,7 @@ pub fn collected<'a, S: ScalarValue, C>(
 ) -> Result<Vec<RootField<'a, S>>, OutOfMemory>
     requires { IsRoot root.now }
     ensures { IfOk result (λ fields. (after : List (List ℕ))
-        × CollectsAt (printed_value S.text S.str_of) root.now [] set.now (placed fields.items) after) }
+        × CollectsAt S.bool_of root.now [] set.now (placed fields.items) after) }
 {
     let mut state = Collecting {
         waiting: Vec::new(alloc),
@@ -339,7 +342,7 @@ pub fn collected<'a, S: ScalarValue, C>(
         let Some(next) = state.waiting.pop() else {
             return Ok(state.fields);
         };
-        collect_first(alloc, root, next, &mut state)?;
+        collect_first(root, next, &mut state)?;
     }
     Err(OutOfMemory)
 }

@@ -4,7 +4,6 @@ ghost use Rattle.std.specs.Prelude.{◌≡◌, ◌++◌, ◌∷◌, [], ℕ, Lis
 ghost use Rattle.std.specs.Prelude.{string_bytes};
 ghost use Rattle.std.specs.List.{filter, list_any};
 ghost use Rattle.language_types.specs.References.{list_copied};
-ghost use Rattle.language_values.specs.ValuesPrinted.{printed_value};
 ghost use Rattle.language_types.specs.Position.{Placed};
 ghost use Rattle.language.specs.declared.tree.Field.{Field};
 ghost use Rattle.walk.specs.ContextState.{with_errors};
@@ -59,21 +58,21 @@ impl Fresh for SingleRootField {
 }
 
 impl<S: CheckedScalar> Machine<S, S::Check> for SingleRootField {
-    ghost step = { document_step (single_root_errors (printed_value S.text S.str_of)) };
+    ghost step = { document_step (single_root_errors S.bool_of) };
 }
 
 impl<S: CheckedScalar> Rule<S, S::Check> for SingleRootField {
-    ghost allows = { given_at_end (single_root_errors (printed_value S.text S.str_of)) };
+    ghost allows = { given_at_end (single_root_errors S.bool_of) };
 
-    ghost keeps = { document_keeps (single_root_errors (printed_value S.text S.str_of)) };
+    ghost keeps = { document_keeps (single_root_errors S.bool_of) };
 }
 
 impl<S: CheckedScalar> Criterion<S, S::Check> for SingleRootField {
-    ghost finds_nothing = { λ scope t doc. SelectOne (printed_value S.text S.str_of) scope doc };
+    ghost finds_nothing = { λ scope t doc. SelectOne S.bool_of scope doc };
 }
 
 impl<S: CheckedScalar> SettledRule<S, S::Check> for SingleRootField {
-    ghost silent = { single_root_silent (printed_value S.text S.str_of) };
+    ghost silent = { single_root_silent S.bool_of };
 }
 
 impl<'a, S: CheckedScalar> Visitor<'a, S> for SingleRootField {
@@ -125,7 +124,7 @@ fn report_all<'a, S: CheckedScalar>(
     document: &'a [Definition<'a, S>],
 ) -> Result<(), OutOfMemory>
     ensures ok { OnOk result ((es : List ErrorValue)
-        × TellsEach (printed_value S.text S.str_of) ctx.old.schema document.now document.now es
+        × TellsEach S.bool_of ctx.old.schema document.now document.now es
         × (ctx.new ≡ with_errors ctx.old es)) }
     ensures err { OnErr result (KeepsPlace ctx.old ctx.new) }
 {
@@ -151,7 +150,7 @@ fn report_each<'a, S: CheckedScalar>(
     requires schema { root.now.schema.now ≡ ctx.old.schema }
     requires name { root_name ctx.old.schema ≡ Some root.now.name.now }
     ensures ok { OnOk result ((es : List ErrorValue)
-        × TellsEach (printed_value S.text S.str_of) ctx.old.schema root.now.document.now definitions.now es
+        × TellsEach S.bool_of ctx.old.schema root.now.document.now definitions.now es
         × (ctx.new ≡ with_errors ctx.old es)) }
     ensures err { OnErr result (KeepsPlace ctx.old ctx.new) }
 {
@@ -172,7 +171,7 @@ fn report_definition<'a, S: CheckedScalar>(
     requires schema { root.now.schema.now ≡ ctx.old.schema }
     requires name { root_name ctx.old.schema ≡ Some root.now.name.now }
     ensures ok { OnOk result ((es : List ErrorValue)
-        × Tells (printed_value S.text S.str_of) ctx.old.schema root.now.document.now definition.now es
+        × Tells S.bool_of ctx.old.schema root.now.document.now definition.now es
         × (ctx.new ≡ with_errors ctx.old es)) }
     ensures err { OnErr result (KeepsPlace ctx.old ctx.new) }
 {
@@ -197,7 +196,7 @@ fn found_at_root<'a, S: ScalarValue, C>(
 ) -> Result<FoundAtRoot, OutOfMemory>
     requires { IsRoot root.now }
     ensures { IfOk result (λ found. (fs : List (Placed (Field S))) × (after : List (List ℕ))
-        × CollectsAt (printed_value S.text S.str_of) root.now [] set.now fs after × IsFound fs found) }
+        × CollectsAt S.bool_of root.now [] set.now fs after × IsFound fs found) }
 {
     let fields = collected(alloc, root, set)?;
     let mut found = FoundAtRoot {
